@@ -50,15 +50,17 @@ pub fn text_of(number: u64) -> String {
     format!("{number:016x}")
 }
 
-fn texts(keys: &[u64], others: &[u64]) {
-    let wanted: Vec<String> = others.iter().map(|key| text_of(*key)).collect();
-    let given: Vec<String> = keys.iter().map(|key| text_of(*key)).collect();
+// Strings whose first bytes differ, or, behind the same front, do not.
+fn texts(keys: &[u64], others: &[u64], front: &str, names: [&str; 2]) {
+    let text = |key: &u64| front.to_owned() + &text_of(*key);
+    let wanted: Vec<String> = others.iter().map(text).collect();
+    let given: Vec<String> = keys.iter().map(text).collect();
     let mut map = BTreeMap::new();
     let start = Instant::now();
     for text in given {
         map.insert(text, 1u64);
     }
-    tell("map", "text-insert", start, keys.len(), map.len() as u64);
+    tell("map", names[0], start, keys.len(), map.len() as u64);
     let start = Instant::now();
     let mut sum = 0u64;
     for text in &wanted {
@@ -66,10 +68,10 @@ fn texts(keys: &[u64], others: &[u64]) {
             sum = sum.wrapping_add(*value);
         }
     }
-    tell("map", "text-get", start, keys.len(), sum);
+    tell("map", names[1], start, keys.len(), sum);
 }
 
-// Every second key, from a place on, and every fourth.
+// Every second key, from an index on, and every fourth.
 pub fn every_second(sorted: &[u64], first: usize) -> Vec<u64> {
     let chosen = |place: &usize| place % 2 == first || place % 4 == 0;
     let places = (0..sorted.len()).filter(chosen);
@@ -154,7 +156,7 @@ fn ends(keys: &[u64], others: &[u64]) {
     tell("map", "poplast", start, keys.len(), sum);
 }
 
-// Pairs that come one by one and at once, one for a hundred that are there, in a mixed order and
+// Pairs that come one by one and at once, one for a hundred that are there, in random order and
 // sorted; and two maps of every second key that become one.
 fn come(sorted: &[u64], others: &[u64]) {
     let half = half_of(sorted, 0);
@@ -330,7 +332,8 @@ fn main() {
                 sum = sum.wrapping_add(key);
             }
             tell("map", "drain", start, keys.len(), sum);
-            texts(&keys, &others);
+            texts(&keys, &others, "", ["text-insert", "text-get"]);
+            texts(&keys, &others, "alikealike", ["alike-insert", "alike-get"]);
             both(&sorted);
             ends(&keys, &others);
             come(&sorted, &others);

@@ -1,14 +1,14 @@
-// Loaded ahead of the C library (LD_PRELOAD): counts the requests for memory of a program, and refuses one of them.
+// Loaded ahead of the C library (LD_PRELOAD): counts the allocations of a program, and makes one of them fail.
 //
 // The file that REFUSE_COUNT names is a page of four machine words that are up to date at each moment:
-//   how many requests the program made;
+//   how many allocations the program made;
 //   how many blocks it has, which at its end is what it leaked;
 //   how many blocks it was given in all;
-//   the number, from 1, of the request that is refused, counted from now on, or 0. Another process writes it while the program
-//   waits for input, or before it starts. Each request takes 1 away, and the one that makes it 0 is refused. So the program was
-//   refused a request exactly if the word is 0 then.
+//   the number, from 1, of the allocation that fails, counted from now on, or 0. Another process writes it while the program
+//   waits for input, or before it starts. Each allocation takes 1 away, and the one that makes it 0 fails. So an allocation
+//   failed exactly if the word is 0 then.
 //
-// Requests and blocks are those of the program's own code, and not those of the C library or the loader.
+// Allocations and blocks are those of the program's own code, and not those of the C library or the loader.
 typedef unsigned long word;
 
 typedef struct {
@@ -52,7 +52,7 @@ static void find_program(void) {
 
 __attribute__((constructor)) static void begin(void) {
     const char *name = getenv("REFUSE_COUNT");
-    int file = name ? open(name, 2 | 0100, 0600) : -1; // for reading and writing, made if there is none
+    int file = name ? open(name, 2 | 0100, 0600) : -1; // for reading and writing, made if it is missing
     find_program();
     if (file < 0) return;
     // A file that is longer or shorter gets the page's length. What it has of it stays.

@@ -69,7 +69,7 @@ static PyObject *object_of(char kind, uint64_t number) {
     return PyFloat_FromDouble(real);
 }
 
-/* Where a number is among the words of a map of numbers: SPOT_AT a word, or before or behind all. */
+/* The spot of a number in a map of numbers: SPOT_AT its word, or before or behind all words. */
 static int spot_of(const Map *map, char kind, uint64_t number, uint64_t *word) {
     bool has_sign_bit = number & SIGN_BIT;
     *word = is_signed(map) ? number ^ SIGN_BIT : number;
@@ -78,7 +78,7 @@ static int spot_of(const Map *map, char kind, uint64_t number, uint64_t *word) {
     return kind == 'q' ? SPOT_BEFORE : SPOT_BEHIND;
 }
 
-/* Writes the words of n numbers from an index on, and where each is. */
+/* Writes the words and the spots of n numbers from an index on. */
 static void spots_of(const Map *map, const Numbers *numbers, size_t at, size_t n, uint64_t *words, uint8_t *spots) {
     for (size_t i = 0; i < n; i++) spots[i] = (uint8_t)spot_of(map, numbers->kind, number_at(numbers, at + i), words + i);
 }

@@ -295,7 +295,7 @@ int key_check(Bytes *bytes, PyObject *key) {
 
 void key_raise(const Bytes *bytes) {
     if (PyFloat_Check(bytes->culprit)) {
-        PyErr_SetString(PyExc_ValueError, "nan has no place in an order, and is no key");
+        PyErr_SetString(PyExc_ValueError, "nan cannot be ordered, so it is not a key");
         return;
     }
     PyErr_Format(PyExc_TypeError,

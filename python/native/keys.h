@@ -13,7 +13,7 @@
 typedef struct Bytes {
     uint8_t *at;
     size_t n, room;
-    PyObject *culprit; /* what is no key, or the part of a tuple that is none: borrowed from the key */
+    PyObject *culprit; /* the object that is not a key, or the part of a tuple that is not: borrowed from the key */
     uint8_t own[232];
 } Bytes;
 
@@ -21,7 +21,7 @@ typedef struct Bytes {
    no key, and no exception is set. */
 enum { KEY_FAILED = -1, KEY_GOOD = 0, KEY_NONE = 1 };
 
-/* Where a key is among the integers of a map: at a word, before that word, or behind all words. */
+/* The spot of a key among the integers of a map: at a word, before that word, or behind all words. */
 enum { SPOT_AT, SPOT_BEFORE, SPOT_BEHIND };
 
 /* Finds the types of dates. Returns -1 and sets an exception if that fails. */
@@ -36,12 +36,12 @@ int bytes_grow(Bytes *bytes, size_t more);
 bool key_is_by_index(PyObject *key);
 /* Appends the bytes of a key. May run code of a time zone or of an __index__. */
 int key_encode(Bytes *bytes, PyObject *key);
-/* KEY_GOOD if the object is a key. It encodes only what can be refused. */
+/* KEY_GOOD if the object is a key. It encodes only the parts that decide this. */
 int key_check(Bytes *bytes, PyObject *key);
 /* Sets the TypeError or ValueError of a KEY_NONE. */
 void key_raise(const Bytes *bytes);
 
-/* Where an encoded key is among integers from -2**63 to 2**63 - 1, or from 0 to 2**64 - 1. The word
+/* The spot of an encoded key among integers from -2**63 to 2**63 - 1, or from 0 to 2**64 - 1. The word
    of a signed integer has its first bit turned over, so that words are ordered as their integers. */
 int key_spot(const Bytes *bytes, bool is_signed, uint64_t *word);
 /* The same of an object of type int itself. It runs no code, and sets no exception. */

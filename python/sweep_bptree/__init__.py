@@ -36,6 +36,8 @@ if os.environ.get("SWEEP_BPTREE_LIBRARY"):
 from . import _native  # noqa: E402
 from ._native import EmptyError  # noqa: E402, F401
 
+__version__ = "0.6.0"
+
 __all__ = ["SortedMap", "SortedSet"]
 
 _KEYS, _VALUES, _ITEMS = range(3)
@@ -63,11 +65,10 @@ class SortedMap(_native.Map):
     2**63 - 1, or from 0 to 2**64 - 1, they are kept as numbers, and take less time and memory. The
     first other key moves all pairs, in O(n).
 
-    If an allocation fails, a call raises ``MemoryError`` and the map is unchanged. ``update`` alone
-    may keep the pairs before the one that failed, and of keys that no array has room for also
-    ``put_many`` and ``del_many``. Several threads may use one map: each call of a
-    method in C is one step to other threads, unless it runs code of the caller, such as that of a
-    time zone.
+    If an allocation fails, a call raises ``MemoryError`` and the map is unchanged. Three calls may
+    keep what they did before the failure: ``update``, and ``put_many`` and ``del_many`` unless all
+    keys are ints of one of these two ranges. Several threads may use one map: each call of a method
+    in C is one step to other threads, unless it runs code of the caller, such as that of a time zone.
     """
 
     __slots__ = ("__weakref__",)
@@ -78,7 +79,7 @@ class SortedMap(_native.Map):
 
     @classmethod
     def fromkeys(cls, keys, value=None, /):
-        """A map of these keys, each with the same value.
+        """A map of these keys, each with the same value. O(m log m) for m keys.
 
         >>> SortedMap.fromkeys("ba", 0)
         SortedMap({'a': 0, 'b': 0})
@@ -145,7 +146,7 @@ class SortedMap(_native.Map):
     __copy__ = copy
 
     def keys(self):
-        """A view of the keys in their order, which takes an index or a slice too.
+        """A view of the keys in their order, which takes an index or a slice too. O(1).
 
         >>> SortedMap(a=1, b=2).keys()[0]
         'a'
@@ -153,7 +154,7 @@ class SortedMap(_native.Map):
         return Keys(self)
 
     def values(self):
-        """A view of the values in the order of their keys, which takes an index or a slice too.
+        """A view of the values in the order of their keys, which takes an index or a slice too. O(1).
 
         >>> SortedMap(a=1, b=2).values()[:]
         [1, 2]
@@ -161,7 +162,7 @@ class SortedMap(_native.Map):
         return Values(self)
 
     def items(self):
-        """A view of the pairs in the order of their keys, which takes an index or a slice too.
+        """A view of the pairs in the order of their keys, which takes an index or a slice too. O(1).
 
         >>> SortedMap(a=1, b=2).items()[-1]
         ('b', 2)
@@ -225,7 +226,7 @@ class _View(Sequence):
         return self._mapping._walk(self._what, True)
 
     def tolist(self):
-        """All members of the view, as they are at one moment.
+        """All members of the view, as they are at one moment. O(n).
 
         >>> SortedMap(a=1, b=2).values().tolist()
         [1, 2]
@@ -323,8 +324,8 @@ class SortedSet(_native.Set):
         (2, [3, 5], False, SortedSet([2, 3, 5, 7]), [3, 5])
 
     Its keys, their order, failures and threads are as of a ``SortedMap``. A method that takes other
-    sets takes any iterables. An operator takes sets alone. ``update`` alone may keep some of the
-    keys if an allocation fails, and of keys that no array has room for ``del_many`` may remove some.
+    sets takes any iterables. An operator takes sets alone. If an allocation fails, ``update`` may
+    have added some keys, and ``del_many`` may have removed some, unless all keys are ints of 64 bits.
     """
 
     __slots__ = ("__weakref__",)
@@ -353,7 +354,7 @@ class SortedSet(_native.Set):
     __copy__ = copy
 
     def update(self, *others):
-        """Adds the keys of these iterables.
+        """Adds the keys of these iterables. O(m log(n + m)) for m keys.
 
         >>> numbers = SortedSet([2])
         >>> numbers.update([1, 2], {3: None})
@@ -364,7 +365,7 @@ class SortedSet(_native.Set):
             self._store(other)
 
     def union(self, *others):
-        """A set of the keys of this set and of these iterables.
+        """A set of the keys of this set and of these iterables. O(n + m log(n + m)) for m of theirs.
 
         >>> SortedSet([2]).union([1], [3])
         SortedSet([1, 2, 3])
@@ -375,6 +376,8 @@ class SortedSet(_native.Set):
 
     def intersection(self, *others):
         """A set of the keys that are also in each of these iterables.
+
+        O(n) look-ups in each iterable. One that is no set, mapping or view is made a set first.
 
         >>> SortedSet([1, 2, 3]).intersection([2, 3], [3, 4])
         SortedSet([3])
@@ -387,6 +390,8 @@ class SortedSet(_native.Set):
     def difference(self, *others):
         """A set of the keys that are in none of these iterables.
 
+        O(n) look-ups in each iterable. One that is no set, mapping or view is made a set first.
+
         >>> SortedSet([1, 2, 3]).difference([2], [4])
         SortedSet([1, 3])
         """
@@ -398,6 +403,8 @@ class SortedSet(_native.Set):
     def symmetric_difference(self, other, /):
         """A set of the keys that are in this set or in an iterable, and not in both.
 
+        O((n + m) log(n + m)) for m members of the iterable.
+
         >>> SortedSet([1, 2]).symmetric_difference([2, 3])
         SortedSet([1, 3])
         """
@@ -406,6 +413,8 @@ class SortedSet(_native.Set):
 
     def intersection_update(self, *others):
         """Removes the keys that are not in each of these iterables. It changes all or nothing.
+
+        O(n) look-ups in each iterable, as `intersection`.
 
         >>> numbers = SortedSet([1, 2, 3])
         >>> numbers.intersection_update([2, 4])
@@ -417,6 +426,8 @@ class SortedSet(_native.Set):
     def difference_update(self, *others):
         """Removes the keys that are in one of these iterables. It changes all or nothing.
 
+        O(n) look-ups in each iterable, as `difference`.
+
         >>> numbers = SortedSet([1, 2, 3])
         >>> numbers.difference_update([2, 4])
         >>> numbers
@@ -426,7 +437,7 @@ class SortedSet(_native.Set):
 
     def symmetric_difference_update(self, other, /):
         """Removes the keys that are in an iterable too, and adds its other keys. It changes all or
-        nothing.
+        nothing. O((n + m) log(n + m)) for m members of the iterable.
 
         >>> numbers = SortedSet([1, 2])
         >>> numbers.symmetric_difference_update([2, 3])
@@ -436,7 +447,7 @@ class SortedSet(_native.Set):
         self._swap(self.symmetric_difference(other))
 
     def issubset(self, other, /):
-        """Whether each key of this set is in an iterable.
+        """Whether each key of this set is in an iterable. O(n) look-ups in it, as `intersection`.
 
         >>> SortedSet([1, 2]).issubset([1, 2, 3])
         True
@@ -445,7 +456,7 @@ class SortedSet(_native.Set):
         return all(key in other for key in self)
 
     def issuperset(self, other, /):
-        """Whether each member of an iterable is in this set.
+        """Whether each member of an iterable is in this set. O(m log n) for m members.
 
         >>> SortedSet([1, 2]).issuperset([1])
         True
@@ -453,7 +464,7 @@ class SortedSet(_native.Set):
         return all(key in self for key in other)
 
     def isdisjoint(self, other, /):
-        """Whether no member of an iterable is in this set.
+        """Whether no member of an iterable is in this set. O(m log n) for m members.
 
         >>> SortedSet([1, 2]).isdisjoint([3])
         True

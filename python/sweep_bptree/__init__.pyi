@@ -15,6 +15,8 @@ from collections.abc import (
 )
 from typing import Any, Generic, Protocol, Self, SupportsIndex, TypeVar, overload
 
+__version__: str
+
 __all__ = ["SortedMap", "SortedSet"]
 
 _K = TypeVar("_K")

@@ -67,7 +67,12 @@ def functions() -> dict[str, Any]:
         ("range", size, [handle, word, array, size]),
         ("range_back", size, [handle, word, array, size]),
         ("page", size, [handle, size, array, size]),
+        ("copy", size, [handle, size, array, size, array, size]),
+        ("get_many", None, [handle, array, size, array, size, array, size]),
+        ("rank_many", None, [handle, array, size, array, size]),
+        ("at_many", None, [handle, array, size, array, size, array, size, array, size]),
         ("put_many", boolean, [handle, array, size, array, size]),
+        ("del_many", None, [handle, array, size, array, size]),
     ]:
         function = getattr(library, "bptree_" + name)
         function.restype, function.argtypes = result, arguments

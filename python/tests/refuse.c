@@ -1,5 +1,5 @@
-/* What tests/refused.py links into the extension: counts the requests for memory that the extension
-   and the library make, refuses one of them, and counts blocks of both. */
+/* What tests/refused.py links into the extension: counts the allocations of the extension and the
+   library, makes one of them fail, and counts the blocks of both. */
 #include <Python.h>
 #include <stdarg.h>
 #include <stdlib.h>
@@ -7,7 +7,8 @@
 static long until_refusal = -1, refusals, blocks;
 
 #define SHOWN __attribute__((visibility("default")))
-/* The request after n more is refused, once; -1: none is. Returns how many were refused since. */
+/* The allocation after n more fails, once; -1: no allocation fails. Returns how many failed since the
+   last call. */
 SHOWN long refuse_after(long n);
 SHOWN long blocks_held(void);
 

@@ -149,7 +149,7 @@ class Refused(unittest.TestCase):
                 failed = True
             was_refused = refuse_after(-1)
             if not was_refused:
-                self.assertFalse(failed, "a MemoryError without a refusal")
+                self.assertFalse(failed, "a MemoryError without a failed allocation")
             if failed:
                 failures += 1
                 self.assertEqual(map_.items().tolist(), before)

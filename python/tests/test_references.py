@@ -1,4 +1,4 @@
-"""References to keys and values: none too many, none too few, and cycles are collected."""
+"""References to keys and values: no leak, no early release, and cycles are collected."""
 
 import gc
 import random

@@ -1,4 +1,4 @@
-"""Uses of the package that a type checker must accept, and some that it must refuse.
+"""Uses of the package that a type checker must accept, and some that it must reject.
 
 ``mypy --strict`` reads this file: each ``assert_type`` must hold, and each line with a
 ``type: ignore`` must have that error and no other. It also runs.

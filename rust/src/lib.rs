@@ -38,6 +38,9 @@ pub use set::{Set, SetIntoIter};
 
 use std::fmt;
 
+/// The version of this crate.
+pub const VERSION: &str = env!("CARGO_PKG_VERSION");
+
 /// An allocation failed, and nothing has changed.
 #[derive(Debug, Clone, Copy, PartialEq, Eq)]
 pub struct OutOfMemory;

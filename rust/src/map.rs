@@ -431,7 +431,7 @@ impl<K: OrderedKey + Clone, V: Clone> Map<K, V> {
 
 const BLOCK: usize = 64;
 
-// Addresses of entries that were copied and not returned yet: those at the places `left`.
+// Addresses of entries that were copied and not returned yet: those at the indexes `left`.
 struct Block {
     addresses: [u64; BLOCK],
     left: Range<usize>,

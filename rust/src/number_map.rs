@@ -52,7 +52,7 @@ impl NumberMap {
     /// A copy of the map. O(n).
     pub fn try_clone(&self) -> Result<NumberMap, OutOfMemory> {
         let mut handle = Handle { at: std::ptr::null_mut() };
-        // SAFETY: the map's handle holds a map, and the other one holds none.
+        // SAFETY: the map's handle holds a map, and the other handle is empty.
         match unsafe { raw::bptree_clone(&self.handle, &mut handle) } {
             true => Ok(NumberMap { handle }),
             false => Err(OutOfMemory),

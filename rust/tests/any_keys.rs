@@ -142,7 +142,9 @@ where
 fn numbers() {
     calls(60_000, |dice| dice.roll(3000) as i32 - 1500);
     calls(20_000, |dice| (dice.roll(2) << 63) + dice.roll(300));
-    calls(20_000, |dice| i128::MIN + i128::from(dice.roll(9)) * (i128::MAX / 4));
+    calls(20_000, |dice| {
+        i128::MIN.wrapping_add(i128::from(dice.roll(9)).wrapping_mul(i128::MAX / 4))
+    });
     calls(5_000, |dice| dice.roll(200) as i8);
 }
 

@@ -4,74 +4,31 @@ from __future__ import annotations
 
 import asyncio
 import fcntl
-import json
 import os
-import shutil
 import time
-import uuid
-from collections.abc import Iterable, Sequence
+from collections.abc import Sequence
+from functools import cached_property
+from itertools import accumulate
 
 from distributed import Client
 
 from . import routing
-from .held import OutOfMemory
+from .cluster import Cluster, Place
+from .errors import BatchError, BrokenError, NotWrittenError, ShardError
 from .lines import GREATEST, request
-from .log import Broken, NotWritten, ShardError, write_whole
-from .shard import Shard, message, reply
+from .shard import TEXT
 
-__all__ = ["Lost", "Refused", "Shards"]
-
-
-# After so many seconds without an answer it is looked whether the worker is there.
-_LOOK = 0.5
-
-
-class Lost(ShardError):
-    """No worker can be reached that could open a shard again."""
-
-
-class Refused(Exception):
-    """A shard did not do its lines, for a reason in ``error``. ``answers`` are those to the lines before the first of them.
-
-    Lines behind that one which went to other shards may have been done. Its own were not where the error is ``NotWritten``.
-    """
-
-    def __init__(self, error: Exception, answers: list[bytes]):
-        super().__init__(str(error))
-        self.error = error
-        self.answers = answers
-
-
-class _Place:
-    """A shard as the client sees it."""
-
-    def __init__(self, name: str, low: int):
-        self.name = name
-        #: the least key that it can have
-        self.low = low
-        self.length = 0
-        #: the number of its last batch
-        self.number = 0
-        self.future = None
-        self.actor = None
-        self.worker = ""
-
-    def let_go(self) -> None:
-        """Has its worker let go of it, and so of its folder, if there is one still."""
-        future, self.future, self.actor = self.future, None, None
-        if future is not None:
-            try:
-                future.cancel()
-            except Exception:
-                pass
+__all__ = ["Shards"]
 
 
 class Shards:
     """One ordered map from numbers to numbers, over shards on the workers of a client of Dask.
 
-    One client at a time has a folder; all workers see it. Its calls come from one thread. ``shards`` is how many shards it
-    aims at: a shard that has more than ``limit`` pairs, or one and a half times its share of all, is split, and neighbours
-    that have less than half of this together are merged; none below ``least`` pairs is split.
+    One client at a time uses a folder, and all workers see it. Its calls come from one thread. ``shards`` is how many shards it
+    aims at: a shard that has more than ``limit`` pairs, or one and a half times its share of all, is split, and neighbours that
+    have less than half of this together are merged. No shard of at most ``least`` pairs is split.
+
+    A call that raises a ``ShardError`` has changed nothing, and a batch of it is not done later either.
     """
 
     def __init__(
@@ -83,210 +40,55 @@ class Shards:
         least: int = 1024,
         batch: int = 10_000,
         sync: bool = True,
-        by: str | None = None,
         patience: float = 60,
     ):
         self.client = client
         self.folder = os.path.abspath(folder)
         self.shards, self.limit, self.least, self.batch = shards, max(limit, 2), max(least, 2), batch
-        self.sync, self.by, self.patience = sync, by, patience
-        #: what was done so far: messages to shards, lines and bytes in them, bytes of answers, and moves
-        self.counts = dict.fromkeys(("messages", "lines", "bytes out", "bytes in", "splits", "merges", "opened again"), 0)
-        self._me = uuid.uuid4().bytes
         self._held_up = 0.0
         try:
             os.makedirs(self.folder, exist_ok=True)
             self._lock = os.open(os.path.join(self.folder, "lock"), os.O_RDWR | os.O_CREAT | os.O_CLOEXEC, 0o666)
         except OSError as error:
-            raise NotWritten(f"{self.folder} cannot be made: {error.strerror}") from error
+            raise NotWrittenError(f"{self.folder} cannot be made: {error.strerror}") from error
         try:
             fcntl.flock(self._lock, fcntl.LOCK_EX | fcntl.LOCK_NB)
         except BlockingIOError:
             os.close(self._lock)
             raise ShardError(f"{self.folder} is in use by another client") from None
-        self._places: list[_Place] = []
+        self._busy = asyncio.Lock()
+        self._cluster = Cluster(client, self.folder, sync, patience)
+        self.counts = self._cluster.counts
         try:
-            self._open_table()
+            self._run(self._cluster.open_table)
+            self._see_bounds()
         except BaseException:
             self.close()
             raise
 
-    # The table: which shards there are, in a file that is replaced in whole.
+    def _run(self, function, *arguments, **named):
+        """Runs a method of the cluster in the event loop of the client."""
+        return self.client.sync(self._alone, function, *arguments, **named)
 
-    def _open_table(self) -> None:
-        path = os.path.join(self.folder, "table")
-        if os.path.exists(path):
-            try:
-                with open(path, encoding="ascii") as it:
-                    table = json.load(it)
-                self._next = table["next"]
-                places = [_Place(name, low) for name, low in table["shards"]]
-                lows = [place.low for place in places]
-                is_right = lows[0] == 0 and lows == sorted(set(lows))
-            except (ValueError, LookupError, TypeError):
-                is_right = False
-            if not is_right:
-                raise Broken(f"{path} is not as it was written")
-        else:
-            self._next = 1
-            places = [_Place("shard-0", 0)]
-        self._set(places)
-        self._write_table(self._places)
-        # (folders of shards that were not there yet, or not any more, when a move was cut off)
-        known = {place.name for place in places}
-        for name in os.listdir(self.folder):
-            if name.startswith("shard-") and name not in known:
-                shutil.rmtree(os.path.join(self.folder, name), ignore_errors=True)
-        begun = [(place, self._begin(place)) for place in places]
-        for place, future in begun:
-            try:
-                self._finish(place, future)
-            except ShardError:
-                raise
-            except Exception:
-                # (that worker is gone)
-                self._call(place, "length")
+    async def _alone(self, function, *arguments, **named):
+        # (a call that was interrupted from the keyboard may still be at work)
+        async with self._busy:
+            return await function(*arguments, **named)
 
-    def _set(self, places: list[_Place]) -> None:
-        self._places = places
-        self._bounds = [place.low for place in places[1:]]
+    def _see_bounds(self) -> None:
+        self._bounds = [place.low for place in self._cluster.places[1:]]
 
-    def _write_table(self, places: list[_Place]) -> None:
-        table = {"next": self._next, "shards": [(place.name, place.low) for place in places]}
-        write_whole(os.path.join(self.folder, "table"), json.dumps(table).encode("ascii"), self.sync)
-
-    # Shards on workers.
-
-    def _begin(self, place: _Place, avoid: str = ""):
-        """Has a worker open a shard: the one that has the fewest."""
-        others = [it for it in self._places if it is not place]
-        began = time.monotonic()
-        while True:
-            waited = time.monotonic() - began
-            # (one that is gone is known for a moment still)
-            workers = [worker for worker in self.client.nthreads() if worker != avoid or waited > 1]
-            if workers:
-                break
-            if waited > self.patience:
-                raise Lost(f"there is no worker for {place.name}")
-            time.sleep(0.05)
-        place.worker = min(workers, key=lambda worker: (sum(it.worker == worker for it in others), worker))
-        place.let_go()
-        # (one that the table does not name yet has pairs of its own alone)
-        at = self._places.index(place) + 1 if place in self._places else len(self._places)
-        high = self._places[at].low if at < len(self._places) else None
-        return self.client.submit(
-            Shard,
-            os.path.join(self.folder, place.name),
-            place.low,
-            high,
-            self.sync,
-            self.by,
-            actor=True,
-            workers=[place.worker],
-            key=f"{place.name}-{uuid.uuid4().hex}",
-            pure=False,
-        )
-
-    def _finish(self, place: _Place, future) -> None:
-        place.future = future
-        try:
-            place.actor = self._waited(place, future)
-            place.length = self._waited(place, place.actor.length())
-        except BaseException:
-            place.let_go()
-            raise
-
-    def _open_again(self, place: _Place) -> None:
-        """Opens a shard whose worker is gone on another, from its folder."""
-        self.counts["opened again"] += place.worker != ""
-        self._finish(place, self._begin(place, avoid=place.worker))
-
-    def _began(self, place: _Place, method: str, arguments: tuple):
-        """Sends a call. What it raises comes when its result is asked for."""
-        if place.actor is None:
-            return None
-        self.counts["messages"] += 1
-        try:
-            return getattr(place.actor, method)(*arguments)
-        except (OSError, ValueError):
-            # (its worker is known to be gone)
-            return None
-
-    def _result(self, place: _Place, method: str, arguments: tuple, future):
-        """The result of a call. Where it was cut off the shard is opened again and the call is sent again."""
-        end = time.monotonic() + self.patience
-        while True:
-            try:
-                return self._waited(place, future)
-            except OutOfMemory:
-                place.let_go()
-                raise
-            except ShardError:
-                raise
-            except Exception as error:
-                if time.monotonic() > end:
-                    raise Lost(f"{place.name} does not answer: {error}") from error
-                future = self._began(place, method, arguments) if self._is_there(place) else None
-                if future is None:
-                    try:
-                        self._open_again(place)
-                    except ShardError:
-                        raise
-                    except Exception:
-                        # (that worker is gone too)
-                        pass
-                    future = self._began(place, method, arguments)
-
-    def _waited(self, place: _Place, future):
-        """Waits for the result of a call, as long as its worker is known as alive."""
-        while future is not None:
-            try:
-                return future.result(timeout=_LOOK)
-            except (TimeoutError, asyncio.TimeoutError):
-                if future.done():
-                    return future.result()
-                # (a call to a worker that is gone can wait for a connection for half a minute)
-                if place.worker not in self.client.nthreads():
-                    break
-        raise OSError("no worker has it")
-
-    def _is_there(self, place: _Place) -> bool:
-        """Whether the worker of a shard is known as alive, after a call that was cut off."""
-        time.sleep(0.02)
-        return place.actor is not None and place.worker in self.client.nthreads()
-
-    def _call(self, place: _Place, method: str, *arguments):
-        return self._result(place, method, arguments, self._began(place, method, arguments))
-
-    def _ask(self, asked: dict[int, list[bytes]]) -> dict[int, list[bytes] | ShardError]:
-        """Sends lines to shards, one message to each at once, and gives the answers of each, or why it refused."""
-        sent = []
-        for shard, lines in asked.items():
-            place = self._places[shard]
-            place.number += 1
-            self.counts["lines"] += len(lines)
-            arguments = (message(self._me, place.number, b"\n".join(lines) + b"\n"),)
-            self.counts["bytes out"] += len(arguments[0])
-            sent.append((shard, place, arguments, self._began(place, "answer", arguments)))
-        answers: dict[int, list[bytes] | ShardError] = {}
-        for shard, place, arguments, future in sent:
-            try:
-                came = self._result(place, "answer", arguments, future)
-                self.counts["bytes in"] += len(came)
-                place.length, said = reply(came)
-                answers[shard] = said.split(b"\n")
-            except ShardError as error:
-                answers[shard] = error
-        return answers
+    def _by_worker(self, shards) -> list[int]:
+        """Shards in the order of their workers: the message to a worker is one piece then."""
+        places = self._cluster.places
+        return sorted(shards, key=lambda shard: (places[shard].worker, shard))
 
     def lengths(self) -> list[int]:
         """How many pairs each shard has, in their order."""
-        for place in self._places:
-            if place.actor is None:
-                # (it could not be opened before)
-                place.length = self._call(place, "length")
-        return [place.length for place in self._places]
+        places = self._cluster.places
+        if any(place.handle is None for place in places):
+            self._run(self._cluster.open, places)
+        return [place.length for place in places]
 
     def bounds(self) -> list[int]:
         """The bounds between the shards."""
@@ -294,9 +96,20 @@ class Shards:
 
     def processes(self) -> list[int]:
         """The number of the process of each shard."""
-        return [self._call(place, "process") for place in self._places]
+        return self._run(self._cluster.processes)
 
     # Lines.
+
+    def _ask(self, asked: dict[int, list[bytes]]) -> dict[int, list[bytes]]:
+        """Sends lines to shards, one message to each of their workers at once, and returns the answers of each shard."""
+        if not asked:
+            return {}
+        order = self._by_worker(asked)
+        texts = [b"\n".join(asked[shard]) + b"\n" for shard in order]
+        parts = [(self._cluster.places[shard], len(text)) for shard, text in zip(order, texts)]
+        sizes, pieces = self._run(self._cluster.batch, TEXT, parts, [memoryview(b"".join(texts))])
+        said, ends = b"".join(column for (column,) in pieces), list(accumulate(sizes))
+        return {shard: said[end - size : end].split(b"\n") for shard, size, end in zip(order, sizes, ends)}
 
     def answer(self, lines: Sequence[bytes]) -> list[bytes]:
         """The answers to lines of the program, in their order, as the program gives them."""
@@ -304,36 +117,23 @@ class Shards:
         for start in range(0, len(lines), self.batch):
             try:
                 answers += self._answer_batch(lines[start : start + self.batch])
-            except Refused as refused:
-                refused.answers = answers + refused.answers
-                raise
+            except ShardError as error:
+                raise BatchError(error, answers) from error
             self._balance()
         return answers
 
     def _present(self, requests: list) -> set[int]:
         """Which of the keys that these requests put or delete are there."""
-        keys: dict[int, None] = {}
-        for it in requests:
-            if it and it[0] in _CHANGES:
-                keys[it[1]] = None
-        if not keys:
-            return set()
         of_shards: dict[int, list[int]] = {}
-        for key in keys:
+        for key in dict.fromkeys(it[1] for it in requests if it and it[0] in _CHANGES):
             of_shards.setdefault(routing.route(self._bounds, key), []).append(key)
         answers = self._ask({shard: [b"rank %d" % key for key in found] for shard, found in of_shards.items()})
-        present: set[int] = set()
-        for shard, found in of_shards.items():
-            said = answers[shard]
-            if isinstance(said, ShardError):
-                raise Refused(said, [])
-            present.update(key for key, it in zip(found, said) if it.startswith(b"in"))
-        return present
+        return {key for shard, found in of_shards.items() for key, it in zip(found, answers[shard]) if it.startswith(b"in")}
 
     def _answer_batch(self, lines: Sequence[bytes]) -> list[bytes]:
         requests = [request(line) for line in lines]
-        # A place of the whole is in a shard that only the lengths tell, and these change with the lines before it. So it is
-        # asked first which of the keys that are changed before it are there.
+        # The shard that has an index of the whole depends on the lengths, and these change with the lines before it. So it is asked
+        # first which of the keys that are changed before it are there.
         exact = max((at + 1 for at, it in enumerate(requests) if it and it[0] in _BY_PLACE), default=0)
         plan, asked = self._planned(lines, requests, self._present(requests[:exact]), exact)
         before = self.lengths()
@@ -448,10 +248,9 @@ class Shards:
                         add((_JOIN, found))
         return plan, asked
 
-    def _combined(self, plan: list, lengths: list[int], came: dict[int, list[bytes] | ShardError]) -> list[bytes]:
+    def _combined(self, plan: list, lengths: list[int], came: dict[int, list[bytes]]) -> list[bytes]:
         """The answers to the lines of a plan, by those of the shards, with the lengths before them."""
-        refused = {shard: it for shard, it in came.items() if isinstance(it, ShardError)}
-        nexts = [iter(() if shard in refused else came.get(shard, ())).__next__ for shard in range(len(lengths))]
+        nexts = [iter(came.get(shard, ())).__next__ for shard in range(len(lengths))]
         answers: list[bytes] = []
         add = answers.append
         try:
@@ -485,19 +284,13 @@ class Shards:
                         lengths[:] = [0] * len(lengths)
                         add(b"cleared")
         except StopIteration:
-            error = next(iter(refused.values()), None)
-            if error is None:
-                raise Broken("a shard gave fewer answers than lines") from None
-            raise Refused(error, answers) from error
+            raise BrokenError("a shard gave fewer answers than lines") from None
         return answers
 
-    # Calls. Each asks the fewest shards that can answer.
+    # Calls for one key or one range, as lines. Each asks the fewest shards that can answer.
 
     def _one(self, shard: int, line: bytes) -> bytes:
-        answer = self._ask({shard: [line]})[shard]
-        if isinstance(answer, ShardError):
-            raise answer
-        return answer[0]
+        return self._ask({shard: [line]})[shard][0]
 
     def get(self, key: int) -> int | None:
         """The value at a key."""
@@ -562,9 +355,16 @@ class Shards:
     def range(self, start: int, end: int) -> list[tuple[int, int]]:
         """The pairs with a key from start on and below end."""
         _see(start), _see(end)
-        low, high = routing.route_range(self._bounds, start, end) if start < end else (0, -1)
-        found = [shard for shard in range(low, high + 1) if self._places[shard].length]
+        found = self._shards_between(start, end)
         return self._of_all(found, [b"range %d %d" % (start, end)] * len(found))
+
+    def _shards_between(self, low: int, high: int | None) -> list[int]:
+        """The shards that have a pair with a key from ``low`` on and below ``high``, or may have one."""
+        if high is not None and low >= high:
+            return []
+        first, last = routing.route_range(self._bounds, low, high)
+        lengths = self.lengths()
+        return [shard for shard in range(first, last + 1) if lengths[shard]]
 
     def from_key(self, key: int, count: int) -> list[tuple[int, int]]:
         """At most so many pairs, from the least key that is not below a key on, upward."""
@@ -584,7 +384,7 @@ class Shards:
 
     def back(self) -> list[tuple[int, int]]:
         """All pairs, from the greatest key down."""
-        found = [shard for shard in range(len(self._places) - 1, -1, -1) if self._places[shard].length]
+        found = [shard for shard in range(len(self._cluster.places) - 1, -1, -1) if self._cluster.places[shard].length]
         return self._of_all(found, [b"back"] * len(found))
 
     def page(self, number: int, size: int) -> list[tuple[int, int]]:
@@ -596,14 +396,70 @@ class Shards:
 
     def _of_all(self, shards: list[int], lines: list[bytes]) -> list[tuple[int, int]]:
         answers = self._ask({shard: [line] for shard, line in zip(shards, lines)})
-        for answer in answers.values():
-            if isinstance(answer, ShardError):
-                raise answer
         return _pairs(routing.joined(answers[shard][0] for shard in shards))
 
     def _shard(self, key: int) -> int:
         _see(key)
         return routing.route(self._bounds, key)
+
+    # Calls for arrays.
+
+    @cached_property
+    def _arrays(self):
+        # (numpy is needed for these calls alone)
+        from .arrays import Arrays
+
+        return Arrays(self)
+
+    def get_many(self, keys):
+        """The value at each key, or 0, and whether the key is there: an array of ``uint64`` and one of ``bool``.
+
+        Here and below keys, values and indexes are an array of integers, another buffer of them, or a list.
+        """
+        return self._arrays.get_many(keys)
+
+    def put_many(self, keys, values) -> None:
+        """Stores each value at its key, all of them or none. Of equal keys the last value stays."""
+        self._arrays.put_many(keys, values)
+
+    def delete_many(self, keys):
+        """Removes the keys, all of them or none, and returns whether each was there. Of a key that comes twice the second is not."""
+        return self._arrays.delete_many(keys)
+
+    def rank_many(self, keys):
+        """How many keys are smaller than each of these: an array of ``int64``."""
+        return self._arrays.rank_many(keys)
+
+    def at_many(self, indexes):
+        """The key and the value at each index, or 0, and whether there is a pair."""
+        return self._arrays.at_many(indexes)
+
+    def range_arrays(self, low: int = 0, high: int | None = None):
+        """The keys and the values of all pairs with a key from ``low`` on and below ``high``, or to the last one."""
+        _see(low), _see(high or 0)
+        return self._arrays.range_arrays(low, high)
+
+    def from_arrays(self, keys, values) -> None:
+        """Replaces all pairs by these, sorted or not: in shards of equal length. Of equal keys the last value stays."""
+        self._arrays.from_arrays(keys, values)
+
+    def to_dask_dataframe(self):
+        """All pairs as they are now, as a data frame of Dask with the index ``key``, the column ``value`` and known divisions.
+
+        Each shard is a partition, which its worker copies into its own memory.
+        """
+        from .frames import to_dask_dataframe
+
+        return to_dask_dataframe(self)
+
+    def from_dask_dataframe(self, frame, column: str = "value") -> None:
+        """Replaces all pairs by those of a data frame of Dask, from its index to a column. Its divisions are known, and ascend.
+
+        Each partition is a shard. Workers make the files of the shards, and no pair passes through the client.
+        """
+        from .frames import from_dask_dataframe
+
+        from_dask_dataframe(self, frame, column)
 
     # Bounds move between batches.
 
@@ -636,61 +492,66 @@ class Shards:
     def split(self, shard: int) -> None:
         """Moves the upper half of a shard into a new one behind it. It has two pairs or more.
 
-        The new shard is on the disk in whole before the table names it, and the old one lets go of its half after that. What is
-        cut off between leaves pairs that are in no range of the table, which are left out when a shard is opened.
+        The new shard is on the disk in whole before the table names it, and the old one removes its half after that. What is cut
+        off between leaves pairs that are in no range of the table, which are removed when a shard is opened.
         """
-        place = self._places[shard]
-        bound, data = self._call(place, "upper_half")
-        fresh = _Place(f"shard-{self._next}", bound)
-        self._next += 1
+        self._run(self._split, shard)
+
+    async def _split(self, shard: int) -> None:
+        cluster = self._cluster
+        place = cluster.places[shard]
+        high = cluster.highs()[place]
+        fresh = cluster.fresh((await cluster.call(place, "middle"))["bound"], high)
         try:
-            fresh.length = self._call(fresh, "take", data)
-            places = self._places[: shard + 1] + [fresh] + self._places[shard + 1 :]
-            self._write_table(places)
+            await cluster.move(place, fresh.low, fresh, high)
+            places = cluster.places[: shard + 1] + [fresh] + cluster.places[shard + 1 :]
+            cluster.write_table(places)
         except BaseException:
-            self._drop(fresh)
+            await cluster.drop([fresh])
             raise
-        self._set(places)
-        self.counts["splits"] += 1
+        cluster.places = places
+        self._see_bounds()
+        cluster.counts["splits"] += 1
         place.length -= fresh.length
-        self._call(place, "cut", bound)
+        await self._cut(place, fresh.low)
+
+    async def _cut(self, place: Place, high: int) -> None:
+        try:
+            place.length = (await self._cluster.call(place, "cut", high=high))["length"]
+        except BaseException as error:
+            # (its pairs from there on are removed when it is opened)
+            self._cluster.forget(place)
+            if not isinstance(error, ShardError):
+                raise
 
     def merge(self, left: int) -> None:
         """Moves all pairs of a shard into the one before it."""
-        place, other = self._places[left], self._places[left + 1]
-        data = self._call(other, "pairs")
-        length = self._call(place, "take", data)
-        places = self._places[: left + 1] + self._places[left + 2 :]
-        try:
-            self._write_table(places)
-        except NotWritten:
-            place.length = self._call(place, "cut", other.low)
-            raise
-        self._set(places)
-        place.length = length
-        self.counts["merges"] += 1
-        self._drop(other)
+        self._run(self._merge, left)
 
-    def _drop(self, place: _Place) -> None:
-        """Lets go of a shard that the table does not name, and of its folder."""
+    async def _merge(self, left: int) -> None:
+        cluster = self._cluster
+        place, other = cluster.places[left], cluster.places[left + 1]
+        places = cluster.places[: left + 1] + cluster.places[left + 2 :]
         try:
-            if place.actor is not None:
-                place.actor.close().result(timeout=self.patience)
-        except Exception:
-            pass
-        place.let_go()
-        shutil.rmtree(os.path.join(self.folder, place.name), ignore_errors=True)
+            await cluster.move(other, other.low, place, cluster.highs()[other])
+            cluster.write_table(places)
+        except BaseException:
+            # (what it has of the other is removed when it is opened)
+            await cluster.close([place])
+            raise
+        cluster.places = places
+        self._see_bounds()
+        cluster.counts["merges"] += 1
+        await cluster.drop([other])
 
     def close(self) -> None:
-        """Lets go of the shards, which stay in the folder."""
-        for place in self._places:
-            try:
-                if place.actor is not None:
-                    place.actor.close().result(timeout=self.patience)
-            except Exception:
-                pass
-            place.let_go()
+        """Closes the shards, which stay in the folder."""
         if self._lock >= 0:
+            try:
+                self._run(self._cluster.close, self._cluster.places)
+            except Exception:
+                # (the client of Dask was closed before)
+                pass
             os.close(self._lock)
             self._lock = -1
 

@@ -1,44 +1,38 @@
-"""The map of one shard: by the functions for C in this process, or by a program ``bptree`` of its own.
+"""The map of one shard, by the functions for C: calls for arrays of keys, and the lines of the program.
 
-Each answers the lines of the program, and beside them three that answer as ``all`` does: ``from j c``, the c pairs from place j
-on; ``ahead k c``, the c pairs from key k on; and ``behind k c``, the c pairs from key k back.
+Arrays are addresses of 64-bit words, or of bytes that are 1 where a key was found. Beside the lines of the program there are three
+that answer as ``all`` does: ``from j c``, the c pairs from index j on; ``ahead k c``, the c pairs from key k on; and
+``behind k c``, the c pairs from key k back.
 """
 
 from __future__ import annotations
 
-import os
-import select
-import shutil
-import subprocess
+import sys
 from array import array
-from ctypes import byref, c_size_t, c_uint64
+from ctypes import addressof, byref, c_char, c_size_t, c_uint64
 
-from .log import ShardError
+from .errors import OutOfMemoryError, ShardError
 
-__all__ = ["ByProgram", "InProcess", "OutOfMemory", "hold"]
+__all__ = ["Map", "address", "words"]
+
+if sys.byteorder != "little":
+    raise ImportError("the files and messages of shards have words of 64 bits with the least byte first")
 
 
-class OutOfMemory(ShardError):
-    """Memory was refused. What the call asked for is in the log all the same: the shard is opened again before it is asked again."""
+def words(count: int) -> array:
+    """So many words of 64 bits, all 0."""
+    return array("Q", bytes(8 * count))
 
 
-def hold(by: str | None = None):
-    """An empty map: by the ``library`` where its shared object is found, else by the ``program``, or as ``by`` says."""
-    if by in (None, "library"):
-        try:
-            from sweep_bptree import _library
-
-            return InProcess(_library)
-        except (ImportError, OSError) as error:
-            if by:
-                raise ShardError(f"the library for C is not found: {error}") from error
-    path = os.environ.get("SWEEP_BPTREE_PROGRAM") or shutil.which("bptree")
-    if path and os.access(path, os.X_OK):
-        return ByProgram(path)
-    raise ShardError(
-        "a shard needs a map: set SWEEP_BPTREE_LIBRARY to libsweep_bptree.so (with the package sweep_bptree on the path), "
-        "or SWEEP_BPTREE_PROGRAM to the program bptree"
-    )
+def address(view) -> tuple[int, object]:
+    """The address of words, and what has them: these bytes, or a copy if they are not aligned or can't be written to."""
+    view = memoryview(view)
+    if view.nbytes and not view.readonly:
+        at = addressof(c_char.from_buffer(view))
+        if at % 8 == 0:
+            return at, view
+    copy = array("Q", view.tobytes())
+    return copy.buffer_info()[0], copy
 
 
 def _said(words: list[int]) -> bytes:
@@ -46,48 +40,90 @@ def _said(words: list[int]) -> bytes:
     return b",".join(b"%d %d" % pair for pair in zip(words[::2], words[1::2])) or b"empty"
 
 
-class InProcess:
-    """A map by the functions for C."""
+class Map:
+    """A map from numbers to numbers."""
 
-    def __init__(self, library):
-        self._results = library.NO_MEMORY, library.REPLACED, library.REMOVED
-        self._call = library.functions()
-        self._map = library.Handle()
+    _map = None
+
+    def __init__(self):
+        try:
+            from sweep_bptree import _library
+
+            self._call = _library.functions()
+        except (ImportError, OSError) as error:
+            raise ShardError(f"a shard needs the package sweep_bptree and its library, on each worker: {error}") from error
+        self._results = _library.NO_MEMORY, _library.REPLACED, _library.REMOVED
+        self._map = _library.Handle()
         self._ref = byref(self._map)
-        self._pair = library.Pair()
+        self._pair = _library.Pair()
         self._number = c_uint64()
         self._size = c_size_t()
         if not self._call["new"](self._ref):
-            raise OutOfMemory("memory was refused for a map")
+            raise OutOfMemoryError("an allocation failed for a map")
 
     def __len__(self) -> int:
         return self._call["len"](self._ref)
 
     def close(self) -> None:
-        if self._map.at:
+        if self._map is not None and self._map.at:
             self._call["free"](self._ref)
 
     __del__ = close
 
-    def load(self, words: array) -> None:
-        """Takes these keys and values, in turn and in ascending order, in the place of what was there."""
-        if not self._call["load"](self._ref, words.buffer_info()[0], len(words) // 2):
-            raise OutOfMemory("memory was refused for the pairs of a shard")
+    def many(self, kind: str, count: int, arrays: list[int]) -> None:
+        """Calls ``get``, ``rank``, ``at``, ``put`` or ``del`` for so many keys or indexes, with the arrays of the function for C."""
+        given = [word for at in arrays for word in (at, count)]
+        if self._call[kind + "_many"](self._ref, *given) is False:
+            raise OutOfMemoryError("an allocation failed for pairs: none of them was stored")
+
+    def piece(self, count: int) -> int:
+        """Of so many pairs that are put, how many one call should put.
+
+        The library makes all nodes anew for a sixteenth of the pairs that there are, or more. Below a sixth it was slower than to put
+        smaller pieces one after another.
+        """
+        length = len(self)
+        return length // 16 - 1 if length >= 1024 and length // 16 <= count < length // 6 else count
+
+    def put_pieces(self, count: int, keys_at: int, values_at: int) -> None:
+        """Puts so many pairs. If an allocation fails, the pieces before it stay."""
+        size = self.piece(count)
+        for start in range(0, count, size):
+            self.many("put", min(size, count - start), [keys_at + 8 * start, values_at + 8 * start])
+
+    def put_many(self, keys, values) -> None:
+        """Stores pairs, whose keys and values are words in two buffers: all of them or none."""
+        if len(keys):
+            (keys_at, keys), (values_at, values) = address(keys), address(values)
+            self.many("put", memoryview(keys).nbytes // 8, [keys_at, values_at])
+
+    def rank(self, key: int) -> int:
+        """How many keys are smaller."""
+        self._call["rank"](self._ref, key, byref(self._size))
+        return self._size.value
+
+    def copy(self, start: int = 0, end: int | None = None) -> tuple[array, array]:
+        """The keys and the values of the pairs from one index on, and before another."""
+        count = max((len(self) if end is None else end) - start, 0)
+        keys, values = words(count), words(count)
+        self._call["copy"](self._ref, start, keys.buffer_info()[0], count, values.buffer_info()[0], count)
+        return keys, values
+
+    def keep(self, start: int, end: int) -> None:
+        """Removes all pairs but those from one index on and before another. If an allocation fails, none is removed."""
+        keys, values = self.copy(start, end)
+        fresh = Map()
+        fresh.put_many(keys, values)
+        self._map.at, fresh._map.at = fresh._map.at, self._map.at
+
+    def key_at(self, index: int) -> int:
+        self._call["at"](self._ref, index, byref(self._pair))
+        return self._pair.key
 
     def _copied(self, name: str, start: int, count: int) -> array:
-        words = array("Q", bytes(16 * count))
-        came = self._call[name](self._ref, start, words.buffer_info()[0], count)
-        return words[: 2 * came]
-
-    def pairs(self, start: int = 0) -> array:
-        """The keys from start on with their values, in turn."""
-        self._call["rank"](self._ref, start, byref(self._size))
-        return self._copied("range", start, len(self) - self._size.value)
-
-    def middle(self) -> int:
-        """The key in the middle. There is a pair."""
-        self._call["at"](self._ref, len(self) // 2, byref(self._pair))
-        return self._pair.key
+        found = words(2 * count)
+        came = self._call[name](self._ref, start, found.buffer_info()[0], count)
+        return found[: 2 * came]
 
     def answer(self, text: bytes) -> bytes:
         """The answers to these lines, each of which is a request."""
@@ -108,12 +144,12 @@ class InProcess:
             elif name == b"put":
                 code = put(ref, int(words[1]), int(words[2]), number_ref)
                 if code == no_memory:
-                    raise OutOfMemory("memory was refused for a pair")
+                    raise OutOfMemoryError("an allocation failed for a pair")
                 say(b"old %d" % number.value if code == replaced else b"new")
             elif name == b"del":
                 code = delete(ref, int(words[1]), number_ref)
                 if code == no_memory:
-                    raise OutOfMemory("memory was refused for a removal")
+                    raise OutOfMemoryError("an allocation failed for a removal")
                 say(b"gone %d" % number.value if code == removed else b"none")
             elif name == b"rank":
                 is_in = rank(ref, int(words[1]), size_ref)
@@ -147,101 +183,9 @@ class InProcess:
                 say(_said(self._copied("range_back", (1 << 64) - 1, len(self)).tolist()))
             elif name == b"clear":
                 if not call["clear"](ref):
-                    raise OutOfMemory("memory was refused for an empty map")
+                    raise OutOfMemoryError("an allocation failed for an empty map")
                 say(b"cleared")
             else:
                 raise ShardError(f"{line!r} is no request of a shard")
         answers.append(b"")
         return b"\n".join(answers)
-
-
-class ByProgram:
-    """A map in a process of its own, over its pipes."""
-
-    def __init__(self, path: str):
-        self._process = subprocess.Popen([path], stdin=subprocess.PIPE, stdout=subprocess.PIPE, bufsize=0)
-        self._to, self._from = self._process.stdin.fileno(), self._process.stdout.fileno()
-        os.set_blocking(self._to, False)
-        os.set_blocking(self._from, False)
-        self._length = 0
-
-    def __len__(self) -> int:
-        return self._length
-
-    def close(self) -> None:
-        self._process.stdin.close()
-        self._process.stdout.close()
-        self._process.wait()
-
-    def _told(self, text: bytes, count: int) -> bytes:
-        """Writes so many lines, and reads as many, both as far as the pipes allow."""
-        rest, came = memoryview(text), []
-        while count:
-            ready = select.select([self._from], [self._to] if rest else [], [])
-            if ready[0]:
-                read = os.read(self._from, 1 << 20)
-                if not read:
-                    raise OutOfMemory(f"the program of a shard ended with status {self._process.wait()}")
-                came.append(read)
-                count -= read.count(b"\n")
-            if ready[1]:
-                try:
-                    rest = rest[os.write(self._to, rest[: 1 << 16]) :]
-                except BrokenPipeError:
-                    rest = rest[:0]
-        return b"".join(came)
-
-    def _one(self, line: bytes) -> bytes:
-        return self._told(line + b"\n", 1)[:-1]
-
-    def load(self, words: array) -> None:
-        self._one(b"clear")
-        self.answer(b"".join(b"put %d %d\n" % pair for pair in zip(words[::2], words[1::2])))
-
-    def pairs(self, start: int = 0) -> array:
-        all_pairs = self._one(b"all")
-        words = array("Q", map(int, all_pairs.replace(b",", b" ").split()) if all_pairs != b"empty" else ())
-        return words[2 * int(self._one(b"rank %d" % start).split()[1]) :]
-
-    def middle(self) -> int:
-        return int(self._one(b"at %d" % (self._length // 2)).split()[0])
-
-    def answer(self, text: bytes) -> bytes:
-        if not any(it in text for it in (b"from ", b"ahead ", b"behind ")):
-            answers = self._told(text + b"len\n", text.count(b"\n") + 1)
-            end = answers.rindex(b"\n", 0, -1) + 1 if text else 0
-            self._length = int(answers[end:])
-            return answers[:end]
-        # The program has no such line: it is asked for each place.
-        lines = text.split(b"\n")[:-1]
-        if b"ahead " in text or b"behind " in text:
-            return b"".join(map(self._beside, lines))
-        asked, counts = [], []
-        for line in lines:
-            if line.startswith(b"from "):
-                start, count = map(int, line.split()[1:])
-                asked += [b"at %d\n" % place for place in range(start, start + count)]
-                counts.append(count)
-            else:
-                asked.append(line + b"\n")
-                counts.append(-1)
-        came = iter(self.answer(b"".join(asked)).split(b"\n"))
-        answers = []
-        for count in counts:
-            pairs = [next(came) for _ in range(count)]
-            answers.append(next(came) if count < 0 else b",".join(it for it in pairs if it != b"none") or b"empty")
-        return b"".join(answer + b"\n" for answer in answers)
-
-    def _beside(self, line: bytes) -> bytes:
-        """The answer to one line, where it is by a key and a number of pairs: by the place of the key."""
-        words = line.split()
-        if words[0] not in (b"ahead", b"behind"):
-            return self.answer(line + b"\n")
-        where, rank = self._one(b"rank " + words[1]).split()
-        place, count = int(rank), int(words[2])
-        if words[0] == b"ahead":
-            return self.answer(b"from %d %d\n" % (place, min(count, self._length)))
-        place += where == b"in"
-        count = min(count, place)
-        pairs = self.answer(b"from %d %d\n" % (place - count, count))[:-1] if count else b"empty"
-        return b",".join(reversed(pairs.split(b","))) + b"\n"

@@ -36,7 +36,7 @@ def local_client(workers: int = 3) -> Iterator[Client]:
             extensions={},
         )
         try:
-            with Client(cluster, direct_to_workers=True) as client:
+            with Client(cluster) as client:
                 yield client
         finally:
             cluster.close()

@@ -1,7 +1,7 @@
-"""Records in a file, which are there whole or not at all, and the folder of a shard: its snapshot and the log behind it.
+"""Records in a file, each of which is there in whole or not at all, and the folder of a shard: its snapshot and its log.
 
-A record is its length, a checksum of both and its bytes. A file is read up to the first record that is torn or whose checksum is
-another. Of a log what stands behind that is cut off; a snapshot is never torn, since it gets its name when it is whole.
+A record is its length, a checksum of its length and its bytes, and its bytes. A file is read up to the first record that is torn
+or whose checksum differs. The rest of a log is cut off. A snapshot is never torn, since it gets its name once it is written.
 """
 
 from __future__ import annotations
@@ -13,53 +13,49 @@ import time
 import zlib
 from collections.abc import Iterable, Iterator
 
-__all__ = ["Broken", "Log", "NotWritten", "ShardError", "Store", "read_records", "write_whole"]
+from .errors import BrokenError, InUseError, NotWrittenError
+
+__all__ = ["Log", "Store", "read_records", "write_whole"]
 
 _HEAD = struct.Struct("<II")
 # A record has at most so many bytes, so that a torn length does not read far.
 _MOST = 1 << 31
 
 
-class ShardError(Exception):
-    """A shard does not do what it was asked, and says why."""
-
-
-class NotWritten(ShardError):
-    """A log or a snapshot cannot be written, as on a full disk. The shard is as it was before the call."""
-
-
-class Broken(ShardError):
-    """What stands on the disk is not what was written."""
-
-
-def _checksum(data: bytes) -> int:
+def _record(*pieces) -> list:
+    """A record of these bytes, one after another, as buffers to be written."""
+    length = sum(map(len, pieces))
+    if length > _MOST:
+        raise NotWrittenError(f"a record of {length} bytes is too long: pass fewer keys in one call")
     # (with the length, so that zeros are no record)
-    return zlib.crc32(data, zlib.crc32(len(data).to_bytes(4, "little")))
+    checksum = zlib.crc32(length.to_bytes(4, "little"))
+    for piece in pieces:
+        checksum = zlib.crc32(piece, checksum)
+    return [_HEAD.pack(length, checksum), *pieces]
 
 
-def _record(data: bytes) -> bytes:
-    if len(data) > _MOST:
-        raise NotWritten(f"a record of {len(data)} bytes is too long")
-    return _HEAD.pack(len(data), _checksum(data)) + data
-
-
-def read_records(data: bytes) -> Iterator[tuple[int, bytes]]:
-    """Each whole record with the place behind it, up to the first that is torn."""
-    at = 0
+def read_records(data: bytes) -> Iterator[tuple[int, memoryview]]:
+    """Each whole record with the position behind it, up to the first that is torn."""
+    at, view = 0, memoryview(data)
     while at + _HEAD.size <= len(data):
         length, checksum = _HEAD.unpack_from(data, at)
         at += _HEAD.size
-        found = data[at : at + length]
-        if length > _MOST or len(found) < length or _checksum(found) != checksum:
+        found = view[at : at + length]
+        if length > _MOST or len(found) < length or zlib.crc32(found, zlib.crc32(length.to_bytes(4, "little"))) != checksum:
             return
         at += length
         yield at, found
 
 
-def _write(file: int, data: bytes) -> None:
-    rest = memoryview(data)
-    while rest:
-        rest = rest[os.write(file, rest) :]
+def _write(file: int, pieces: Iterable) -> int:
+    """Writes all of these bytes, and returns how many they are."""
+    length = 0
+    for piece in pieces:
+        rest = memoryview(piece)
+        length += len(rest)
+        while rest:
+            rest = rest[os.write(file, rest) :]
+    return length
 
 
 def _sync_folder(folder: str) -> None:
@@ -70,13 +66,13 @@ def _sync_folder(folder: str) -> None:
         os.close(file)
 
 
-def write_whole(path: str, data: bytes, sync: bool = True) -> None:
-    """Makes a file of these bytes in the place of what was there. After a failure, or a crash, that is there still."""
+def write_whole(path: str, pieces: Iterable, sync: bool = True) -> int:
+    """Replaces a file by one of these bytes, and returns how many they are. After a failure or a crash the old file is there."""
     beside = path + ".new"
     try:
         file = os.open(beside, os.O_WRONLY | os.O_CREAT | os.O_TRUNC | os.O_CLOEXEC, 0o666)
         try:
-            _write(file, data)
+            length = _write(file, pieces)
             if sync:
                 os.fsync(file)
         finally:
@@ -84,57 +80,72 @@ def write_whole(path: str, data: bytes, sync: bool = True) -> None:
         os.rename(beside, path)
         if sync:
             _sync_folder(os.path.dirname(path))
+        return length
     except OSError as error:
         try:
             os.unlink(beside)
         except OSError:
             pass
-        raise NotWritten(f"{path} cannot be written: {error.strerror}") from error
+        raise NotWrittenError(f"{path} cannot be written: {error.strerror}") from error
 
 
 class Log:
-    """An append-only file of records. With ``sync`` a record is on the disk itself when ``append`` answers."""
+    """An append-only file of records. With ``sync`` the records are on the disk itself once ``flush`` has returned."""
 
     def __init__(self, path: str, sync: bool = True):
         self.path = path
         self.sync = sync
         self._file = os.open(path, os.O_RDWR | os.O_CREAT | os.O_CLOEXEC, 0o666)
         self._is_torn = False
-        self.records: list[bytes] = []
+        #: the records with the position where each begins
+        self.records: list[tuple[int, memoryview]] = []
         self.length = 0
         with open(path, "rb") as it:
             data = it.read()
-        for self.length, record in read_records(data):
-            self.records.append(record)
-        #: how many bytes stood behind the last whole record
+        for end, record in read_records(data):
+            self.records.append((self.length, record))
+            self.length = end
+        #: how many bytes were behind the last whole record
         self.cut = len(data) - self.length
         if self.cut:
-            self._cut_off()
+            self.cut_to(self.length)
         os.lseek(self._file, self.length, os.SEEK_SET)
 
-    def _cut_off(self) -> None:
-        os.ftruncate(self._file, self.length)
-        if self.sync:
-            os.fsync(self._file)
-        os.lseek(self._file, self.length, os.SEEK_SET)
-
-    def append(self, data: bytes) -> None:
-        """Writes a record. Where that fails the file is as it was."""
-        if self._is_torn:
-            raise NotWritten(f"{self.path} cannot be written: an earlier record is torn, so open it again")
-        record = _record(data)
+    def cut_to(self, length: int) -> None:
+        """Removes the records from a position on. That takes no room on the disk."""
+        # (a failure leaves a torn log)
+        self._is_torn = True
         try:
-            _write(self._file, record)
+            os.ftruncate(self._file, length)
             if self.sync:
-                os.fdatasync(self._file)
+                os.fsync(self._file)
+            os.lseek(self._file, length, os.SEEK_SET)
+        except OSError as error:
+            raise NotWrittenError(f"{self.path} cannot be cut off: {error.strerror}") from error
+        self._is_torn, self.length = False, length
+
+    def append(self, *pieces) -> None:
+        """Writes a record. If that fails the file is as it was."""
+        if self._is_torn:
+            raise NotWrittenError(f"{self.path} cannot be written: an earlier record is torn, so open it again")
+        record = _record(*pieces)
+        try:
+            self.length += _write(self._file, record)
         except OSError as error:
             try:
-                self._cut_off()
-            except OSError:
+                self.cut_to(self.length)
+            except NotWrittenError:
                 # (it is cut off when the file is opened again)
-                self._is_torn = True
-            raise NotWritten(f"{self.path} cannot be written: {error.strerror}") from error
-        self.length += len(record)
+                pass
+            raise NotWrittenError(f"{self.path} cannot be written: {error.strerror}") from error
+
+    def flush(self) -> None:
+        """With ``sync``, waits for the disk."""
+        if self.sync:
+            try:
+                os.fdatasync(self._file)
+            except OSError as error:
+                raise NotWrittenError(f"{self.path} cannot be written: {error.strerror}") from error
 
     def close(self) -> None:
         if self._file >= 0:
@@ -145,22 +156,22 @@ class Log:
 class Store:
     """The folder of a shard: a snapshot, and the log of what was done since. One process at a time has it.
 
-    ``pieces`` are the records of the snapshot, and ``log.records`` those of the log, as they stood when it was opened.
+    ``pieces`` are the records of the snapshot, and ``log.records`` those of the log, as ``read`` found them.
     """
 
-    def __init__(self, folder: str, sync: bool = True, patience: float = 10):
+    def __init__(self, folder: str, sync: bool = True, patience: float = 0.2):
         self.folder = folder
         self.sync = sync
+        self.log: Log | None = None
         try:
             os.makedirs(folder, exist_ok=True)
             self._lock = os.open(os.path.join(folder, "lock"), os.O_RDWR | os.O_CREAT | os.O_CLOEXEC, 0o666)
         except OSError as error:
-            raise NotWritten(f"{folder} cannot be made: {error.strerror}") from error
+            raise NotWrittenError(f"{folder} cannot be made: {error.strerror}") from error
         try:
             self._take_lock(patience)
-            self._open()
         except BaseException:
-            os.close(self._lock)
+            self.close()
             raise
 
     def _take_lock(self, patience: float) -> None:
@@ -170,9 +181,9 @@ class Store:
                 fcntl.flock(self._lock, fcntl.LOCK_EX | fcntl.LOCK_NB)
                 return
             except BlockingIOError:
-                # (a process that was killed just now may still be going)
+                # (a process that was killed just now may still be ending)
                 if time.monotonic() > end:
-                    raise ShardError(f"{self.folder} is in use by another process") from None
+                    raise InUseError(f"{self.folder} is in use by another process") from None
                 time.sleep(0.01)
 
     @property
@@ -182,20 +193,23 @@ class Store:
     def _log_path(self, turn: int) -> str:
         return os.path.join(self.folder, f"log-{turn}")
 
-    def _open(self) -> None:
+    def read(self) -> None:
+        """Reads the snapshot and the log."""
+        if self.log is not None:
+            self.log.close()
         self.turn = 0
-        self.pieces: list[bytes] = []
+        self.pieces: list[memoryview] = []
         self.snapshot_length = 0
-        if os.path.exists(self._snapshot):
-            with open(self._snapshot, "rb") as it:
-                data = it.read()
-            ends = list(read_records(data))
-            if not ends or ends[-1][0] != len(data) or ends[-1][1] != b"end %d" % len(ends):
-                raise Broken(f"{self._snapshot} is not as it was written")
-            self.turn = int(ends[0][1])
-            self.pieces = [piece for _, piece in ends[1:-1]]
-            self.snapshot_length = len(data)
         try:
+            if os.path.exists(self._snapshot):
+                with open(self._snapshot, "rb") as it:
+                    data = it.read()
+                ends = list(read_records(data))
+                if not ends or ends[-1][0] != len(data) or ends[-1][1] != b"end %d" % len(ends):
+                    raise BrokenError(f"{self._snapshot} is not as it was written")
+                self.turn = int(bytes(ends[0][1]))
+                self.pieces = [piece for _, piece in ends[1:-1]]
+                self.snapshot_length = len(data)
             self.log = Log(self._log_path(self.turn), self.sync)
             # (logs that a later snapshot has taken in, and files that were not finished)
             for name in os.listdir(self.folder):
@@ -204,33 +218,36 @@ class Store:
             if self.sync:
                 _sync_folder(self.folder)
         except OSError as error:
-            raise NotWritten(f"{self.folder} cannot be opened: {error.strerror}") from error
+            raise NotWrittenError(f"{self.folder} cannot be opened: {error.strerror}") from error
 
-    def snapshot(self, pieces: Iterable[bytes]) -> None:
-        """Writes a snapshot of these records, after which the log begins anew. Where that fails the old ones stay."""
+    def snapshot(self, pieces: Iterable[list]) -> None:
+        """Writes a snapshot of these records, each some buffers, and begins a new log. If that fails the old ones stay."""
         turn = self.turn + 1
-        records = [_record(b"%d" % turn), *map(_record, pieces)]
+        records = [_record(b"%d" % turn), *(_record(*piece) for piece in pieces)]
         records.append(_record(b"end %d" % (len(records) + 1)))
-        data = b"".join(records)
         # The new log is there, and empty, before the snapshot that it follows.
         try:
             fresh = Log(self._log_path(turn), self.sync)
         except OSError as error:
-            raise NotWritten(f"{self._log_path(turn)} cannot be made: {error.strerror}") from error
+            raise NotWrittenError(f"{self._log_path(turn)} cannot be made: {error.strerror}") from error
         try:
-            write_whole(self._snapshot, data, self.sync)
-        except NotWritten:
+            length = write_whole(self._snapshot, (buffer for record in records for buffer in record), self.sync)
+        except BaseException:
             fresh.close()
+            # (the new snapshot may be there, and the folder could not be synced)
+            self.read()
+            self.pieces = self.log.records = []
             raise
         self.log.close()
         try:
             os.unlink(self.log.path)
         except OSError:
             pass
-        self.log, self.turn, self.snapshot_length = fresh, turn, len(data)
+        self.log, self.turn, self.snapshot_length = fresh, turn, length
 
     def close(self) -> None:
         if self._lock >= 0:
-            self.log.close()
+            if self.log is not None:
+                self.log.close()
             os.close(self._lock)
             self._lock = -1

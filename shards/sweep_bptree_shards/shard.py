@@ -1,221 +1,273 @@
-"""One shard: a map, and its log on disk. As an actor of Dask it stands on a worker."""
+"""One shard: a map, and its files. The host of a worker process has it."""
 
 from __future__ import annotations
 
 import os
 import struct
-import sys
-import weakref
 from array import array
-from bisect import bisect_left
+from collections.abc import Iterable, Sequence
 
-from .held import hold
-from .log import NotWritten, ShardError, Store
+from .errors import NotOpenError, NotWrittenError, OutOfMemoryError, ShardError
+from .held import Map, address
+from .log import Store
 
-__all__ = ["Shard", "message", "reply"]
+__all__ = ["CHANGES", "KINDS", "TEXT", "Shard", "changes"]
 
-_WHO = struct.Struct("<16sQ")
-_LENGTH = struct.Struct("<Q")
+# The kinds of batches: lines of the program, all pairs between two keys, and calls for arrays by their names in C. Of each kind, how
+# many bytes a key, a pair or a byte of text takes in each column of a message, and in each column of a reply.
+TEXT = "text"
+KINDS = {
+    TEXT: ((1,), (1,)),
+    "range": ((), (8, 8)),
+    "get": ((8,), (8, 1)),
+    "rank": ((8,), (8,)),
+    "at": ((8,), (8, 8, 1)),
+    "put": ((8, 8), ()),
+    "del": ((8,), (1,)),
+}
+CHANGES = ("put", "del")
+# How a line begins that changes something.
+_LINES = b"put ", b"del ", b"clear\n"
+# A record of the log: the client, the number of its batch, the kind, and the lines or the columns.
+_HEAD = struct.Struct("<16sQQ")
+_RECORDS = (TEXT, *CHANGES)
 # So many clients are remembered, those that wrote last.
 _CLIENTS = 16
 # A piece of a snapshot has so many pairs.
-_PIECE = 1 << 16
-# How a line begins that changes something.
-_CHANGES = b"put ", b"del ", b"clear\n"
-# The shards of this process, by their folders, as long as a client wants them.
-_open: weakref.WeakValueDictionary[str, Shard] = weakref.WeakValueDictionary()
+_PIECE = 1 << 20
 
 
-def message(client: bytes, number: int, text: bytes) -> bytes:
-    """What ``answer`` takes: the sixteen bytes of a client, the number of its batch, and lines. Of it a log is made too."""
-    return _WHO.pack(client, number) + text
-
-
-def reply(data: bytes) -> tuple[int, bytes]:
-    """What ``answer`` gives: how many pairs there are after the lines, and the answers to them."""
-    return _LENGTH.unpack_from(data)[0], data[_LENGTH.size :]
-
-
-def _bytes_of(words: array) -> bytes:
-    if sys.byteorder != "little":
-        words = words[:]
-        words.byteswap()
-    return words.tobytes()
-
-
-def _words_of(data: bytes) -> array:
-    words = array("Q", data)
-    if sys.byteorder != "little":
-        words.byteswap()
-    return words
+def changes(kind: str, columns: Sequence) -> bool:
+    """Whether a batch changes something."""
+    if kind != TEXT:
+        return kind in CHANGES
+    text = bytes(columns[0])
+    return text.startswith(_LINES) or any(b"\n" + it in text for it in _LINES)
 
 
 class Shard:
-    """The pairs with a key from ``low`` on and below ``high``, as they stand in a folder. One batch at a time is answered.
+    """The pairs with a key from ``low`` on and below ``high``, in a folder. It does one batch at a time.
 
-    A batch of lines that changes something is in the log before it is answered. Its number and its answers are remembered, so
-    that a batch of a client that is sent again, since its answer did not come, is answered once more and not done again.
+    A batch that changes something is in the log before it is answered. The last answer to each client is kept, so that a batch that
+    is sent again, since its answer did not arrive, is not done again. The snapshot that makes the log short is taken before the
+    next batch. So the last batch can be cancelled, by cutting it off the log. ``cancelled`` has such batches.
     """
 
     def __init__(
-        self, folder: str, low: int = 0, high: int | None = None, sync: bool = True, by: str | None = None, log_limit: int = 1 << 22
+        self,
+        folder: str,
+        low: int = 0,
+        high: int | None = None,
+        sync: bool = True,
+        cancelled: Iterable[tuple[bytes, int]] = (),
+        log_limit: int = 1 << 22,
     ):
         self.folder = os.path.abspath(folder)
-        self._log_limit = log_limit
-        self._is_broken = None
-        # (where it is opened again in one process, the later one has it)
-        earlier = _open.pop(self.folder, None)
-        if earlier is not None:
-            earlier.close()
-        self._map = hold(by)
-        self._store = None
+        self.low, self.high, self._log_limit = low, high, log_limit
+        self._map: Map | None = None
+        # Of the last record of the log: the client, its number, and where it begins.
+        self._last: tuple[bytes, int, int] | None = None
+        self._cancelled: dict[bytes, int] = {}
+        self._store = Store(self.folder, sync)
         try:
-            self._store = Store(self.folder, sync)
-            self._answered: dict[bytes, tuple[int, bytes]] = {}
             self._read()
-            self._keep(low, high)
+            for client, number in cancelled:
+                self.cancel(client, number)
+            self._load()
         except BaseException:
             self.close()
             raise
-        _open[self.folder] = self
 
     def _read(self) -> None:
-        """Does again what the snapshot and the log say."""
-        words = array("Q")
+        self._store.read()
+        records = self._store.log.records
+        self._last = (*_HEAD.unpack_from(records[-1][1])[:2], records[-1][0]) if records else None
+
+    def _load(self) -> None:
+        """Does again what the snapshot and the log contain."""
+        self._answered: dict[bytes, tuple[int, bytes]] = {}
+        held = Map()
         for piece in self._store.pieces:
             if piece[:1] == b"p":
-                words.extend(_words_of(piece[1:]))
+                half = len(piece) // 2
+                held.put_many(piece[8 : half + 4], piece[half + 4 :])
             else:
-                self._remember(piece[1 : 1 + _WHO.size], piece[1 + _WHO.size :])
-        self._map.load(words)
-        for record in self._store.log.records:
-            self._remember(record[: _WHO.size], self._map.answer(record[_WHO.size :]))
+                client, number, _ = _HEAD.unpack_from(piece, 8)
+                self._remember(client, number, bytes(piece[8 + _HEAD.size :]))
+        records = self._store.log.records
+        for start, record in records:
+            if start == records[-1][0]:
+                # (a move may have cut the shard, and found no room to write that)
+                self._keep(held)
+            client, number, kind = _HEAD.unpack_from(record)
+            data = record[_HEAD.size :]
+            half = len(data) // 2
+            columns = [data[:half], data[half:]] if _RECORDS[kind] == "put" else [data]
+            self._remember(client, number, self._done(held, _RECORDS[kind], columns))
+        self._keep(held)
+        self._map = held
         self._store.pieces = self._store.log.records = []
 
-    def _keep(self, low: int, high: int | None) -> None:
-        """Leaves out the pairs that are not its own: a move of a bound was cut off before or after they were written."""
-        words = self._map.pairs()
-        keys = words[::2]
-        start = bisect_left(keys, low)
-        end = len(keys) if high is None else bisect_left(keys, high)
-        if (start, end) != (0, len(keys)):
-            self._map.load(words[2 * start : 2 * end])
-            self._snapshot()
+    def _held(self) -> Map:
+        """The map, which is read from the files again if it was given up."""
+        if self._store is None:
+            raise NotOpenError(f"{self.folder} was closed")
+        if self._map is None:
+            self._read()
+            self._load()
+        return self._map
 
-    def _remember(self, who: bytes, answers: bytes) -> None:
-        client, number = _WHO.unpack(who)
-        # (the one that wrote last stands last)
+    def _give_up(self) -> None:
+        if self._map is not None:
+            self._map.close()
+            self._map = None
+
+    def _keep(self, held: Map) -> None:
+        """Removes the pairs that are not its own: a move was cut off before or after they were written."""
+        start = held.rank(self.low)
+        end = len(held) if self.high is None else held.rank(self.high)
+        if (start, end) != (0, len(held)):
+            held.keep(start, max(start, end))
+
+    def _done(self, held: Map, kind: str, columns: Sequence) -> bytes:
+        """Does a batch that changes something, and returns its answer."""
+        if kind == TEXT:
+            return held.answer(bytes(columns[0]))
+        count = len(columns[0]) // 8
+        if not count:
+            return b""
+        given = [address(column) for column in columns]
+        if kind == "put":
+            held.put_pieces(count, *(at for at, _ in given))
+            return b""
+        answer = array("B", bytes(count))
+        held.many(kind, count, [given[0][0], answer.buffer_info()[0]])
+        return answer.tobytes()
+
+    def _remember(self, client: bytes, number: int, answer: bytes) -> None:
+        # (the one that wrote last is last)
         self._answered.pop(client, None)
-        self._answered[client] = number, answers
+        self._answered[client] = number, answer
         if len(self._answered) > _CLIENTS:
             del self._answered[next(iter(self._answered))]
 
     def _snapshot(self) -> None:
-        data = _bytes_of(self._map.pairs())
-        pieces = [b"p" + data[at : at + 16 * _PIECE] for at in range(0, len(data), 16 * _PIECE)]
-        pieces += [b"c" + _WHO.pack(client, number) + said for client, (number, said) in self._answered.items()]
+        keys, values = map(memoryview, self._held().copy())
+        pieces = [
+            [b"p" + bytes(7), keys[at : at + _PIECE].cast("B"), values[at : at + _PIECE].cast("B")]
+            for at in range(0, len(keys), _PIECE)
+        ]
+        pieces += [[b"c" + bytes(7), _HEAD.pack(client, number, 0), said] for client, (number, said) in self._answered.items()]
         self._store.snapshot(pieces)
+        self._last = None
 
-    def _see(self) -> None:
-        if self._is_broken:
-            raise self._is_broken
+    # Batches.
 
-    def _failed(self, error: ShardError) -> None:
-        """What was done is in the log and was not done in whole: the shard has to be opened again."""
-        self._is_broken = error
-        raise error
+    def __len__(self) -> int:
+        return len(self._held())
 
-    def length(self) -> int:
-        self._see()
-        return len(self._map)
+    def read(self, kind: str, count: int, arrays: list[int]) -> None:
+        """Calls a function for arrays that changes nothing: their addresses are those of the keys, and of the columns of the reply."""
+        self._held().many(kind, count, arrays)
 
-    def process(self) -> int:
-        """The number of the process that has it."""
-        return os.getpid()
+    def lines(self, text: bytes) -> bytes:
+        """The answers to lines that change nothing."""
+        return self._held().answer(text)
 
-    def answer(self, data: bytes) -> bytes:
-        """The reply to a message. The numbers of a client's batches ascend.
-
-        (One string of bytes each way: Dask packs each argument of a call by itself.)
-        """
-        self._see()
-        who, text = data[: _WHO.size], data[_WHO.size :]
-        client, number = _WHO.unpack(who)
+    def begin(self, client: bytes, number: int, kind: str, columns: Sequence) -> bytes | None:
+        """Writes a batch that changes something to the log. If it was done before, returns its answer. A client's numbers ascend."""
+        self._held()
         last, said = self._answered.get(client, (-1, b""))
         if number == last:
-            return _LENGTH.pack(len(self._map)) + said
-        if number < last:
-            raise ShardError(f"batch {number} is older than {last}, which was answered")
-        if not (text.startswith(_CHANGES) or any(b"\n" + it in text for it in _CHANGES)):
-            return self._done(text)
-        self._store.log.append(data)
-        done = self._done(text)
-        self._remember(who, done[_LENGTH.size :])
-        if self._store.log.length > max(self._log_limit, 2 * self._store.snapshot_length):
+            return said
+        if number < last or number <= self._cancelled.get(client, -1):
+            raise ShardError(f"batch {number} is older than one that was answered or cancelled")
+        log = self._store.log
+        if log.length > max(self._log_limit, 2 * self._store.snapshot_length):
             try:
                 self._snapshot()
-            except NotWritten:
-                # (the log has it all; it is tried again after the next batch)
+            except (NotWrittenError, MemoryError):
+                # (the log has it all; it is tried again before the next batch)
                 pass
-        return done
+            log = self._store.log
+        start = log.length
+        log.append(_HEAD.pack(client, number, _RECORDS.index(kind)), *columns)
+        self._last = client, number, start
+        return None
 
-    def _done(self, text: bytes) -> bytes:
+    def flush(self) -> None:
+        """Waits until the log is on the disk."""
+        self._store.log.flush()
+
+    def finish(self, client: bytes, number: int, kind: str, columns: Sequence) -> bytes:
+        """Does a batch that is in the log, and returns its answer. If that fails, the batch is cancelled."""
+        held = self._held()
+        # (one call for an array does all or nothing)
+        is_one_call = kind != TEXT and held.piece(len(columns[0]) // 8) == len(columns[0]) // 8
         try:
-            said = self._map.answer(text)
-        except ShardError as error:
-            self._failed(error)
-        return _LENGTH.pack(len(self._map)) + said
+            answer = self._done(held, kind, columns)
+        except BaseException:
+            self.cancel(client, number, is_done=not is_one_call)
+            raise
+        self._remember(client, number, answer)
+        return answer
 
-    def upper_half(self) -> tuple[int, bytes]:
-        """The key in the middle, and the pairs from it on: what another shard is to take. There are two pairs or more."""
-        self._see()
-        bound = self._map.middle()
-        return bound, _bytes_of(self._map.pairs(bound))
-
-    def pairs(self) -> bytes:
-        """All pairs, key and value in turn, each of eight bytes."""
-        self._see()
-        return _bytes_of(self._map.pairs())
-
-    def take(self, data: bytes) -> int:
-        """Adds pairs whose keys are all above its own, and answers how many pairs there are. Those that it has already, of a
-        call that was cut off, it does not add again."""
-        self._see()
-        own, more = self._map.pairs(), _words_of(data)
-        if more:
-            self._map.load(own[: 2 * bisect_left(own[::2], more[0])] + more)
+    def cancel(self, client: bytes, number: int, is_done: bool = True) -> None:
+        """Undoes the last batch, if it is this one of a client, in the files too. It is never done later."""
+        if self._store is None:
+            raise NotOpenError(f"{self.folder} was closed")
+        self._cancelled[client] = max(number, self._cancelled.get(client, -1))
+        if self._last is not None and self._last[:2] == (client, number):
+            if is_done:
+                self._give_up()
             try:
-                self._snapshot()
-            except NotWritten:
-                try:
-                    self._map.load(own)
-                except ShardError as error:
-                    self._failed(error)
+                self._store.log.cut_to(self._last[2])
+            except NotWrittenError:
+                # (it is cut off when the client has it opened again)
+                self.close()
                 raise
-        return len(self._map)
+            self._store.log.records = self._store.log.records[:-1]
+            self._last = None
 
-    def cut(self, bound: int) -> int:
-        """Leaves out the pairs from a key on, and answers how many stay. The table has said before that they are not its own."""
-        self._see()
-        own = self._map.pairs()
-        self._map.load(own[: 2 * bisect_left(own[::2], bound)])
+    # Moves.
+
+    def middle(self) -> int:
+        """The key in the middle. There is a pair."""
+        held = self._held()
+        return held.key_at(len(held) // 2)
+
+    def pairs(self, low: int = 0, high: int | None = None) -> tuple[array, array]:
+        """The keys and the values of the pairs with a key from ``low`` on and below ``high``."""
+        held = self._held()
+        return held.copy(held.rank(low), len(held) if high is None else held.rank(high))
+
+    def take(self, high: int | None, keys, values) -> None:
+        """Adds pairs, after which its keys are below ``high``. If that fails it is as before."""
+        held, before = self._held(), self.high
+        self.high = high
         try:
+            held.put_many(keys, values)
             self._snapshot()
-        except NotWritten:
-            # (what is still on the disk past the bound is left out when it is opened)
+        except BaseException:
+            self.high = before
+            self._give_up()
+            raise
+
+    def cut(self, high: int) -> None:
+        """Removes the pairs from a key on. The table has said before that they are not its own."""
+        self.high = high
+        try:
+            self._keep(self._held())
+            self._snapshot()
+        except NotWrittenError:
+            # (the pairs that are still on the disk are removed when it is opened)
             pass
-        return len(self._map)
+        except (OutOfMemoryError, MemoryError):
+            self._give_up()
 
     def close(self) -> None:
         """Lets go of the folder. What was answered is there."""
-        self._is_broken = self._is_broken or ShardError(f"{self.folder} was closed")
         if self._store is not None:
             self._store.close()
-        self._map.close()
-        if _open.get(self.folder) is self:
-            del _open[self.folder]
-
-    def __del__(self) -> None:
-        # (a worker lets go of an actor that no client wants)
-        if getattr(self, "_store", None) is not None:
-            self._store.close()
+            self._store = None
+        self._give_up()

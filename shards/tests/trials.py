@@ -1,10 +1,12 @@
 """The trials of the shards: prints 'N passed, M failed', with ', K skipped' if K is not 0, and what failed. tools/shards runs them.
 
-    trials.py PROGRAM [LINES]    PROGRAM answers lines in one process; LINES are drawn for the long run (1,000,000)
+    trials.py PROGRAM [LINES [KEYS]]    PROGRAM answers lines in one process; the long runs take LINES (1,000,000) and KEYS (1,000,000)
 """
 
 from __future__ import annotations
 
+import asyncio
+import ctypes
 import itertools
 import logging
 import os
@@ -18,18 +20,34 @@ import tempfile
 import threading
 import time
 import traceback
+from array import array
 from bisect import bisect_left, bisect_right
 
 import drawn
+import model
+import numpy
 from distributed import Client
-from sweep_bptree_shards import Broken, NotWritten, Refused, ShardError, Shards, local_client, routing
-from sweep_bptree_shards.held import hold
+from distributed.protocol import pickle
+from sweep_bptree_shards import (
+    BatchError,
+    BrokenError,
+    NotWrittenError,
+    OutOfMemoryError,
+    ShardError,
+    Shards,
+    local_client,
+    routing,
+)
+from sweep_bptree_shards.cluster import Cluster
+from sweep_bptree_shards.errors import NotOpenError
+from sweep_bptree_shards.host import Host, raised
 from sweep_bptree_shards.lines import request
 from sweep_bptree_shards.log import Log, Store
-from sweep_bptree_shards.shard import Shard, message, reply
 
 PROGRAM = sys.argv[1] if len(sys.argv) > 1 else ""
-LINES = int(sys.argv[2]) if len(sys.argv) == 3 else 1_000_000
+NUMBERS = [int(it) for it in sys.argv[2:] if it.isdigit()]
+LINES = NUMBERS[0] if NUMBERS else 1_000_000
+KEYS = NUMBERS[1] if len(NUMBERS) > 1 else 1_000_000
 GREATEST = drawn.GREATEST
 # Cases of the proved functions of shards, which tools/random-calls compares with what these answer.
 CASES = os.path.join(os.path.dirname(os.path.abspath(__file__)), "..", "..", "trials", "routes")
@@ -82,8 +100,7 @@ def trial(*functions) -> None:
 
 def by_program(lines: list[bytes]) -> list[bytes]:
     """What the program answers in one process."""
-    text = b"".join(line + b"\n" for line in lines)
-    return subprocess.run([PROGRAM], input=text, stdout=subprocess.PIPE, check=True).stdout.split(b"\n")[:-1]
+    return model.by_program(PROGRAM, lines)
 
 
 def same_answers(name: str, lines: list[bytes], wanted: list[bytes], came: list[bytes]) -> None:
@@ -235,6 +252,10 @@ def routes_beside_the_proved() -> None:
 # Logs and folders.
 
 
+def read(log: Log) -> list[bytes]:
+    return [bytes(record) for _, record in log.records]
+
+
 def logs(folder: str) -> None:
     path = os.path.join(folder, "log")
     records = [b"first", b"", b"x" * 1000, b"the last"]
@@ -245,7 +266,7 @@ def logs(folder: str) -> None:
     with open(path, "rb") as it:
         whole = it.read()
     log = Log(path)
-    same("a log that is read again", (records, 0), (log.records, log.cut))
+    same("a log that is read again", (records, 0), (read(log), log.cut))
     log.close()
     # Torn at each byte of the last record.
     wrong = 0
@@ -257,7 +278,7 @@ def logs(folder: str) -> None:
         log.append(b"after the tear")
         log.close()
         log = Log(path)
-        wrong += log.records != [*records[:-1], b"after the tear"] or log.cut != 0
+        wrong += read(log) != [*records[:-1], b"after the tear"] or log.cut != 0
         log.close()
     same("tears that are not cut off", 0, wrong)
     # Each bit of the last record, turned.
@@ -267,22 +288,29 @@ def logs(folder: str) -> None:
             with open(path, "wb") as it:
                 it.write(whole[:at] + bytes([whole[at] ^ 1 << bit]) + whole[at + 1 :])
             log = Log(path)
-            wrong += log.records != records[:-1] or os.path.getsize(path) != begin
+            wrong += read(log) != records[:-1] or os.path.getsize(path) != begin
             log.close()
     same("turned bits that are taken", 0, wrong)
     # Zeros behind the end, as a crash of the machine can leave them.
     with open(path, "wb") as it:
         it.write(whole + bytes(5000))
     log = Log(path)
-    same("zeros behind the end", (records, 5000), (log.records, log.cut))
+    same("zeros behind the end", (records, 5000), (read(log), log.cut))
+    # A record that is cut off, with no room on the disk.
+    log.cut_to(log.records[-1][0])
+    log.append(b"in its place")
     log.close()
-    # With sync a record is on the disk before it is answered for.
+    log = Log(path)
+    same("a record that was cut off", [*records[:-1], b"in its place"], read(log))
+    log.close()
+    # With sync a record is on the disk once flush has returned.
     synced, earlier = [], os.fdatasync
     os.fdatasync = synced.append
     try:
         for sync in (True, False):
             log = Log(path, sync)
             log.append(b"more")
+            log.flush()
             log.close()
     finally:
         os.fdatasync = earlier
@@ -291,8 +319,9 @@ def logs(folder: str) -> None:
 
 def stores(folder: str) -> None:
     store = Store(folder)
+    store.read()
     store.log.append(b"one")
-    store.snapshot([b"piece 1", b"piece 2"])
+    store.snapshot([[b"piece ", b"1"], [b"piece 2"]])
     store.log.append(b"two")
     raises("a folder that is in use", ShardError, "is in use by another process", Store, folder, True, 0.1)
     store.close()
@@ -301,13 +330,16 @@ def stores(folder: str) -> None:
         with open(os.path.join(folder, name), "wb") as it:
             it.write(data)
     store = Store(folder)
-    same("a store that is opened again", ([b"piece 1", b"piece 2"], [b"two"]), (store.pieces, store.log.records))
+    store.read()
+    same("a store that is opened again", ([b"piece 1", b"piece 2"], [b"two"]), (store.pieces, read(store.log)))
     same("its files", ["lock", "log-1", "snapshot"], sorted(os.listdir(folder)))
     store.close()
     with open(os.path.join(folder, "snapshot"), "r+b") as it:
         it.seek(20)
         it.write(b"?")
-    raises("a snapshot that another has written to", Broken, "is not as it was written", Store, folder)
+    store = Store(folder)
+    raises("a snapshot that another has written to", BrokenError, "is not as it was written", store.read)
+    store.close()
 
 
 def full_disks(folder: str) -> None:
@@ -330,131 +362,291 @@ def full_disks(folder: str) -> None:
         skip("a small file system", "this user cannot mount one", may_fail=False)
 
 
-def told(shard: Shard, number: int, text: bytes) -> tuple[int, bytes]:
-    """How many pairs there are after a batch, and its answers."""
-    return reply(shard.answer(message(b"x" * 16, number, text)))
+class Alone:
+    """A shard, or some, in this process, by the messages that a worker takes."""
+
+    def __init__(self, *folders: str, cuts: list[int] | None = None, **given):
+        self.host = Host(None)
+        lows = [0, *(cuts or [])]
+        shards = [
+            {"folder": folder, "low": low, "high": high, "sync": False, **given}
+            for folder, low, high in zip(folders, lows, [*lows[1:], given.pop("high", None)])
+        ]
+        self.handles, self.lengths = [], []
+        for opened in self.host._open(shards)["opened"]:
+            error = raised(opened)
+            if error is not None:
+                self.close()
+                raise error
+            self.handles.append(opened["handle"])
+            self.lengths.append(opened["length"])
+
+    def batch(self, kind: str, number: int, sizes: list[int], *columns: bytes) -> list[bytes]:
+        """The columns of the answer."""
+        parts = array("Q", [word for handle, size in zip(self.handles, sizes) for word in (handle, number, size)])
+        said = self.host._batch(parts, [memoryview(bytearray(column)) for column in columns], kind, b"x" * 16)
+        self.lengths = array("Q", said["parts"])[::2].tolist()
+        return [bytes(column.data) for column in said["columns"]]
+
+    def told(self, number: int, text: bytes) -> tuple[int, bytes]:
+        """How many pairs the first shard has after some lines, and their answers."""
+        (said,) = self.batch("text", number, [len(text)], text)
+        return self.lengths[0], said
+
+    def shard(self, at: int = 0):
+        return self.host._shards[self.handles[at]]
+
+    def pairs(self) -> list[tuple[int, int]]:
+        found = [self.host._shards[handle].pairs() for handle in self.handles]
+        return [pair for keys, values in found for pair in zip(keys, values)]
+
+    def close(self) -> None:
+        self.host._close(self.handles)
+
+
+def raw(numbers) -> bytes:
+    return array("Q", numbers).tobytes()
 
 
 def fill(folder: str, is_limited: bool) -> None:
-    """Puts until the log takes no more. In a process of its own: prints ok where nothing is wrong."""
+    """Puts until the log takes no more. In a process of its own: prints ok if nothing is wrong."""
     if is_limited:
         resource.setrlimit(resource.RLIMIT_FSIZE, (20_000, resource.RLIM_INFINITY))
-    shard = Shard(folder, sync=False)
+    shard = Alone(folder)
     number, kept = 0, 0
     while True:
         text = b"".join(b"put %d %d\n" % (key, key) for key in range(kept, kept + 50)) + b"len\n"
         number += 1
         try:
-            length, said = told(shard, number, text)
-        except NotWritten as error:
+            length, said = shard.told(number, text)
+        except NotWrittenError as error:
             assert "cannot be written: " in str(error), error
             break
         kept += 50
         assert (length, said) == (kept, b"new\n" * 50 + b"%d\n" % kept)
     assert kept > 50
-    # What was refused was not done, and reading goes on.
-    assert told(shard, number + 1, b"len\nlast\n") == (kept, b"%d\n%d %d\n" % (kept, kept - 1, kept - 1))
+    # What failed was not done, for lines and for arrays, and reading goes on.
+    for kind, columns in (("put", [raw(range(2000)), raw(range(2000))]), ("del", [raw(range(2000))])):
+        number += 1
+        try:
+            shard.batch(kind, number, [2000], *columns)
+            raise AssertionError("there was room")
+        except NotWrittenError as error:
+            assert "cannot be written: " in str(error), error
+    assert shard.told(number + 1, b"len\nlast\n") == (kept, b"%d\n%d %d\n" % (kept, kept - 1, kept - 1))
     if is_limited:
         resource.setrlimit(resource.RLIMIT_FSIZE, (resource.RLIM_INFINITY, resource.RLIM_INFINITY))
-        assert told(shard, number + 2, b"put 7 1\nlen\n") == (kept, b"old 7\n%d\n" % kept)
+        assert shard.told(number + 2, b"put 7 1\nlen\n") == (kept, b"old 7\n%d\n" % kept)
     shard.close()
-    again = Shard(folder, sync=False)
-    assert told(again, number + 3, b"len\nlast\n") == (kept, b"%d\n%d %d\n" % (kept, kept - 1, kept - 1))
+    again = Alone(folder)
+    assert again.told(number + 3, b"len\nlast\n") == (kept, b"%d\n%d %d\n" % (kept, kept - 1, kept - 1))
     again.close()
     print("ok")
 
 
 def one_shard(folder: str) -> None:
-    """A shard alone, by the library and by the program, beside the program: whole, opened again after each batch, and torn."""
+    """A shard alone, beside the program: whole, opened again after each batch, and torn."""
     lines = [line for line in drawn.lines(12_000, 11, 500, 1000) if request(line)]
     wanted = by_program(lines)
-    for by in ("library", "program"):
-        try:
-            hold(by).close()
-        except ShardError as error:
-            skip(f"a shard by the {by}", str(error))
-            continue
-        at = os.path.join(folder, by)
-        came, number = [], 0
-        # (page is asked of a shard as 'from'; log_limit makes it write snapshots)
-        for start in range(0, len(lines), 600):
-            shard = Shard(at, sync=False, by=by, log_limit=20_000)
-            for begin in range(start, min(start + 600, len(lines)), 200):
-                number += 1
-                asked = [as_from(line) for line in lines[begin : begin + 200]]
-                text = b"".join(line + b"\n" for line in asked)
-                length, said = told(shard, number, text)
-                came += said.split(b"\n")[:-1]
-            same(f"{by}: a batch that is sent again", (length, said), told(shard, number, text))
-            shard.close()
-            shard = Shard(at, sync=False, by=by)
-            same(f"{by}: and after it was opened again", (length, said), told(shard, number, text))
-            shard.close()
-        same_answers(f"a shard by the {by}", lines, wanted, came)
-        # The last batch is torn: it was not done, and can be done.
-        shard = Shard(at, sync=False, by=by)
-        before = shard.pairs()
-        raises(f"{by}: an old batch", ShardError, "is older", told, shard, 1, b"put 1 1\n")
-        told(shard, number + 1, b"clear\nput 5 50\n")
-        path = shard._store.log.path
-        shard.close()
-        os.truncate(path, os.path.getsize(path) - 1)
-        shard = Shard(at, sync=False, by=by)
-        same(f"{by}: a log with a torn tail", before, shard.pairs())
-        same(f"{by}: the batch after it", (1, b"cleared\nnew\n"), told(shard, number + 1, b"clear\nput 5 50\n"))
-        shard.close()
-        # Pairs that are not its own, as a move that was cut off leaves them.
-        shard = Shard(at, 0, 5, sync=False, by=by)
-        same(f"{by}: pairs past its bound", 0, shard.length())
-        shard.close()
-        # A cut that there is no room to write is done all the same, since the table has said it.
-        shard = Shard(at, sync=False, by=by)
-        told(shard, number + 2, b"clear\nput 1 10\nput 9 90\n")
-        earlier, shard._store.snapshot = shard._store.snapshot, no_room
-        same(f"{by}: a cut without room", 1, shard.cut(5))
-        raises(f"{by}: to take pairs without room", NotWritten, "no room", shard.take, (7).to_bytes(8, "little") * 2)
-        same(f"{by}: then it is as before", (1, b"1 10\n"), told(shard, number + 3, b"all\n"))
-        shard._store.snapshot = earlier
-        shard.close()
-        shard = Shard(at, 0, 5, sync=False, by=by)
-        same(f"{by}: opened again after a cut without room", (1, b"1 10\n"), told(shard, number + 3, b"all\n"))
-        told(shard, number + 4, b"clear\n")
-        shard.close()
-        number += 4
-        # The lines that the program has not.
-        shard = Shard(at, sync=False, by=by)
-        for line, answer in [
-            (b"from 0 9", b"empty"),
-            (b"ahead 3 9", b"empty"),
-            (b"behind 3 9", b"empty"),
-            (b"put 1 10\nput 3 30\nput 5 50\nfrom 1 1", b"new\nnew\nnew\n3 30"),
-            (b"from 2 7\nget 3\nfrom 3 1\nlen", b"5 50\n30\nempty\n3"),
-            (b"ahead 2 1\nahead 3 9\nahead 6 2", b"3 30\n3 30,5 50\nempty"),
-            (b"behind 2 1\nbehind 3 9\nbehind 0 2\nget 1", b"1 10\n3 30,1 10\nempty\n10"),
-        ]:
+    at = os.path.join(folder, "shard")
+    came, number = [], 0
+    # (page is asked of a shard as 'from'; log_limit makes it write snapshots)
+    for start in range(0, len(lines), 600):
+        shard = Alone(at, log_limit=20_000)
+        for begin in range(start, min(start + 600, len(lines)), 200):
             number += 1
-            same(f"{by}: {line!r}", answer + b"\n", told(shard, number + 1, line + b"\n")[1])
+            asked = [as_from(line) for line in lines[begin : begin + 200]]
+            text = b"".join(line + b"\n" for line in asked)
+            length, said = shard.told(number, text)
+            came += said.split(b"\n")[:-1]
+        same("a batch that is sent again", (length, said), shard.told(number, text))
         shard.close()
-    raises("no map", ShardError, "set SWEEP_BPTREE_LIBRARY", without_a_map)
+        shard = Alone(at)
+        same("and after it was opened again", (length, said), shard.told(number, text))
+        shard.close()
+    same_answers("a shard alone", lines, wanted, came)
+    # The last batch is torn: it was not done, and can be done.
+    shard = Alone(at)
+    before = shard.pairs()
+    raises("an old batch", ShardError, "is older", shard.told, 1, b"put 1 1\n")
+    shard.told(number + 1, b"clear\nput 5 50\n")
+    path = shard.shard()._store.log.path
+    shard.close()
+    os.truncate(path, os.path.getsize(path) - 1)
+    shard = Alone(at)
+    same("a log with a torn tail", before, shard.pairs())
+    same("the batch after it", (1, b"cleared\nnew\n"), shard.told(number + 1, b"clear\nput 5 50\n"))
+    shard.close()
+    # Pairs that are not its own, as a move that was cut off leaves them.
+    shard = Alone(at, high=5)
+    same("pairs past its bound", [0], shard.lengths)
+    shard.close()
+    # A cut that there is no room to write is done all the same, since the table has said it.
+    shard = Alone(at)
+    shard.told(number + 2, b"clear\nput 1 10\nput 9 90\n")
+    store = shard.shard()._store
+    earlier, store.snapshot = store.snapshot, no_room
+    same("a cut without room", {"length": 1}, shard.host._cut(shard.handles[0], 5))
+    raises("to take pairs without room", NotWrittenError, "no room", shard.host._take, shard.handles[0], None, raw([7]), raw([7]))
+    same("then it is as before", (1, b"1 10\n"), shard.told(number + 3, b"all\n"))
+    same("lines after it", (2, b"none\nnew\n1 10\n"), shard.told(number + 4, b"get 9\nput 0 3\nlast\n"))
+    store.snapshot = earlier
+    shard.close()
+    shard = Alone(at, high=5)
+    same("opened again after a cut without room", (2, b"0 3,1 10\n"), shard.told(number + 5, b"all\n"))
+    shard.told(number + 6, b"clear\n")
+    shard.close()
+    number += 6
+    # The lines that the program has not.
+    shard = Alone(at)
+    for line, answer in [
+        (b"from 0 9", b"empty"),
+        (b"ahead 3 9", b"empty"),
+        (b"behind 3 9", b"empty"),
+        (b"put 1 10\nput 3 30\nput 5 50\nfrom 1 1", b"new\nnew\nnew\n3 30"),
+        (b"from 2 7\nget 3\nfrom 3 1\nlen", b"5 50\n30\nempty\n3"),
+        (b"ahead 2 1\nahead 3 9\nahead 6 2", b"3 30\n3 30,5 50\nempty"),
+        (b"behind 2 1\nbehind 3 9\nbehind 0 2\nget 1", b"1 10\n3 30,1 10\nempty\n10"),
+    ]:
+        number += 1
+        same(repr(line), answer + b"\n", shard.told(number + 1, line + b"\n")[1])
+    shard.close()
+    raises("a shard that is closed", NotOpenError, "does not have the shard", shard.told, number + 2, b"len\n")
+    raises("no map", ShardError, "needs the package sweep_bptree", without_a_map, at)
 
 
 def no_room(_) -> None:
-    raise NotWritten("there is no room")
+    raise NotWrittenError("there is no room")
 
 
-def without_a_map() -> None:
-    kept = os.environ.pop("SWEEP_BPTREE_PROGRAM", None), os.environ["PATH"]
-    os.environ["PATH"] = "/nowhere"
+def without_a_map(at: str) -> None:
     modules = {name: sys.modules.pop(name) for name in [*sys.modules] if name.split(".")[0] == "sweep_bptree"}
     sys.modules["sweep_bptree"] = None
     try:
-        hold().close()
+        Alone(at).close()
     finally:
         del sys.modules["sweep_bptree"]
         sys.modules.update(modules)
-        os.environ["PATH"] = kept[1]
-        if kept[0]:
-            os.environ["SWEEP_BPTREE_PROGRAM"] = kept[0]
+
+
+def build_refuse(folder: str) -> str | None:
+    """Compiles what makes allocations fail, and returns its path."""
+    library = os.path.join(folder, "refuse.so")
+    source = os.path.join(os.path.dirname(os.path.abspath(__file__)), "refuse.c")
+    try:
+        subprocess.run([os.environ.get("CC", "cc"), "-shared", "-fPIC", "-O1", "-o", library, source], check=True)
+    except OSError:
+        return None
+    return library
+
+
+def refused(folder: str) -> None:
+    """Batches of two shards, in which each allocation of the map fails in turn, in a process of its own."""
+    library = build_refuse(folder)
+    if library is None:
+        skip("allocations that fail", "there is no C compiler")
+        return
+    asked = [sys.executable, os.path.abspath(__file__), PROGRAM, "refused", folder]
+    done = subprocess.run(asked, env={**os.environ, "LD_PRELOAD": library}, stdout=subprocess.PIPE, timeout=300, check=False)
+    same("batches in which an allocation fails", (0, True), (done.returncode, done.stdout.startswith(b"ok")))
+    print(f"allocations that failed: {done.stdout.decode()}", end="", flush=True)
+
+
+def refuse_each(folder: str) -> None:
+    """A batch that raised is not done, now and after every opening: each of its first 40 allocations fails, and each seventh one."""
+    refuse = ctypes.CDLL(None).shards_refuse
+    refuse.restype, refuse.argtypes = ctypes.c_long, [ctypes.c_long]
+    few = list(range(1, 1600, 2)) + list(range(2001, 3000, 2))
+    text = b"".join(b"put %d 9\n" % key for key in few)
+    cut = text.index(b"put 2001")
+    # (as many as are put in three pieces each)
+    many = list(range(1, 300, 2)) + list(range(2401, 2700, 2))
+    both = [os.path.join(folder, name) for name in ("low", "high")]
+    failures = {}
+    for name, size, kind, sizes, columns in [
+        ("put", 1000, "put", [800, 500], [raw(few), raw(few)]),
+        ("put in pieces", 1200, "put", [150, 150], [raw(many), raw(many)]),
+        ("lines", 1000, "text", [cut, len(text) - cut], [text]),
+        ("clear", 1000, "text", [6, 6], [b"clear\n" * 2]),
+    ]:
+        keys, cuts = list(range(0, 4 * size, 2)), [2 * size]
+        for is_once in (True, False):
+            nth = number = 0
+            while True:
+                # (each from the same pairs; a negative number fails all from there on)
+                for at in both:
+                    shutil.rmtree(at, ignore_errors=True)
+                shards = Alone(*both, cuts=cuts)
+                shards.batch("put", 1, [size, size], raw(keys), raw(keys))
+                before = shards.pairs()
+                refuse(nth + 1 if is_once else -nth - 1)
+                try:
+                    shards.batch(kind, 2, sizes, *columns)
+                    failed = False
+                except OutOfMemoryError:
+                    failed = True
+                left = refuse(0)
+                if not failed:
+                    assert left == 0 or shards.pairs() != before, (name, nth)
+                    if left == 0:
+                        break
+                else:
+                    assert left > 0, (name, nth, "no allocation failed")
+                    assert shards.pairs() == before, (name, nth, "done now")
+                    number += 1
+                    for _ in range(2):
+                        shards.close()
+                        shards = Alone(*both, cuts=cuts)
+                        assert shards.pairs() == before, (name, nth, "done after it was opened again")
+                    try:
+                        shards.batch("del", 0, [1, 1], raw([0, 2 * size]))
+                        raise AssertionError("an old batch was done")
+                    except ShardError:
+                        pass
+                    shards.batch("del", 3, [1, 1], raw([0, 2 * size]))
+                    assert len(shards.pairs()) == len(before) - 2
+                shards.close()
+                nth += 1 if nth < 40 else 7
+            shards.close()
+            failures[f"{name}, {'one' if is_once else 'all from one on'}"] = number
+    assert all(failures.values()), failures
+    print("ok", failures)
+
+
+def full_each(folder: str) -> None:
+    """Two shards whose log has room for ever more bytes of a batch: it is done in both, or in none."""
+    both = [os.path.join(folder, name) for name in ("low", "high")]
+    keys = list(range(100))
+    wrong, failed = [], 0
+    for room in range(0, 900, 41):
+        for at in both:
+            shutil.rmtree(at, ignore_errors=True)
+        shards = Alone(*both, cuts=[50])
+        shards.batch("text", 1, [6, 6], b"clear\n" * 2)
+        shards.batch("put", 2, [50, 50], raw(keys), raw(keys))
+        before = shards.pairs()
+        # (the log of the second shard is longer)
+        extra = b"put 60 60\n" * 40
+        shards.batch("text", 3, [0, len(extra)], extra)
+        length = os.path.getsize(shards.shard(1)._store.log.path)
+        resource.setrlimit(resource.RLIMIT_FSIZE, (length + room, resource.RLIM_INFINITY))
+        try:
+            shards.batch("put", 4, [25, 25], raw(keys[25:75]), raw([7] * 50))
+            is_done = True
+        except NotWrittenError:
+            is_done = False
+            failed += 1
+        finally:
+            resource.setrlimit(resource.RLIMIT_FSIZE, (resource.RLIM_INFINITY, resource.RLIM_INFINITY))
+        wanted = [(key, 7 if is_done and 25 <= key < 75 else value) for key, value in before]
+        for _ in range(2):
+            if shards.pairs() != wanted:
+                wrong.append((room, is_done))
+            shards.close()
+            shards = Alone(*both, cuts=[50])
+        shards.close()
+    same("batches that are done by half on a full disk", [], wrong)
+    same("batches that failed on a full disk, and that did not", (True, True), (failed > 5, failed < 20))
 
 
 def as_from(line: bytes) -> bytes:
@@ -509,7 +701,9 @@ def long_run(client, folder: str) -> None:
     same("shards that were opened again, some", True, counts["opened again"] > 0)
     same("shards were split and merged under load", (True, True), (counts["splits"] > 0, counts["merges"] > 0))
     with Shards(client, folder, shards=1, sync=False) as shards:
-        same_answers("what stays in the folder", [b"all", b"len"], by_program([*lines, b"all", b"len"])[-2:], shards.answer([b"all", b"len"]))
+        same_answers(
+            "what stays in the folder", [b"all", b"len"], by_program([*lines, b"all", b"len"])[-2:], shards.answer([b"all", b"len"])
+        )
         shards.answer([b"clear"])
         same("one shard in the end", [0], shards.lengths())
 
@@ -520,20 +714,29 @@ def killed_between(client, folder: str) -> None:
     with Shards(client, folder, shards=3, least=4, sync=True) as shards:
         shards.answer(puts(range(0, 90, 3)))
         same("shards of thirty pairs", True, len(shards.lengths()) > 1)
-        place = shards._places[0]
+        place = shards._cluster.places[0]
+
+        def sent(kind: str, count: int, column: bytes) -> list[bytes]:
+            """The answers of the first shard to its next batch, which is sent twice, with a worker that is killed in between."""
+            found = []
+            for _ in range(2):
+                _, ((said,),) = shards._run(shards._cluster.batch, kind, [(place, count)], [memoryview(column)])
+                found.append(bytes(said))
+                place.number -= 1
+                killer.kill(shards.processes()[0])
+            place.number += 1
+            return found
+
         lines = b"put 1 10\nput 0 5\ndel 3\nget 1\nlen\n"
-        place.number += 1
-        sent = message(shards._me, place.number, lines)
-        first = reply(shards._call(place, "answer", sent))
-        killer.kill(shards._call(place, "process"))
-        again = reply(shards._call(place, "answer", sent))
+        first, again = sent("text", len(lines), lines)
         same("a batch that was cut off is answered once", first, again)
         same("the shard was opened again", True, shards.counts["opened again"] > 0)
-        same("its answers", b"new\nold 7\ngone 7\n10\n%d\n" % first[0], again[1])
-        place.length = again[0]
-        model = {key: 7 for key in range(0, 90, 3)} | {1: 10, 0: 5}
-        del model[3]
-        same("and it was done once", sorted(model.items()), shards.range(0, GREATEST))
+        same("its answers", b"new\nold 7\ngone 7\n10\n%d\n" % place.length, again)
+        keys = raw([6, 1, 6, 8])
+        same("a removal that was cut off is answered once", [b"\1\1\0\0"] * 2, sent("del", 4, keys))
+        model = {key: 7 for key in range(0, 90, 3)} | {0: 5}
+        del model[3], model[6]
+        same("and each was done once", sorted(model.items()), shards.range(0, GREATEST))
         # All workers at once: the nannies start others.
         for process in set(shards.processes()):
             killer.kill(process)
@@ -563,7 +766,7 @@ def killed_client(client, folder: str) -> None:
 
 def serve_until_killed(address: str, folder: str) -> None:
     """Puts fifty keys in a batch, and tells the number of each batch that was answered. In a process of its own."""
-    with Client(address, direct_to_workers=True) as client, Shards(client, folder, shards=4, least=16) as shards:
+    with Client(address) as client, Shards(client, folder, shards=4, least=16) as shards:
         for turn in range(10_000):
             keys = list(range(turn * 50, turn * 50 + 50))
             random.Random(turn).shuffle(keys)
@@ -577,41 +780,53 @@ def cut_moves(client, folder: str) -> None:
     class Cut(Exception):
         pass
 
-    class CutShards(Shards):
-        """Stops at one step of a move, as a client that is killed there."""
+    class CutCluster(Cluster):
+        """Stops at one step of a move, before or after it, as a client that is killed there."""
 
         at = None
 
-        def _call(self, place, method, *arguments):
-            if self.at == method:
-                raise Cut(method)
-            return super()._call(place, method, *arguments)
+        async def send(self, worker, what, **given):
+            if self.at == what:
+                raise Cut(what)
+            answer = await super().send(worker, what, **given)
+            if self.at == f"after {what}":
+                raise Cut(what)
+            return answer
 
-        def _write_table(self, places):
+        def write_table(self, places):
             if self.at == "table":
                 raise Cut("table")
-            super()._write_table(places)
+            super().write_table(places)
 
-        def _drop(self, place):
+        async def drop(self, places):
             if self.at is None:
-                super()._drop(place)
+                await super().drop(places)
 
     wanted = [(key, 7) for key in range(40)]
     for move in ("split", "merge"):
-        for at in ("upper_half", "pairs", "take", "table", "cut", None):
+        for at in ("middle", "open", "after open", "move", "after move", "table", "cut", "after cut", None):
             here = os.path.join(folder, f"{move}-{at}")
-            with CutShards(client, here, shards=2 if move == "merge" else 1, limit=30 if move == "merge" else 100, least=2) as shards:
+            with Shards(client, here, shards=2 if move == "merge" else 1, limit=30 if move == "merge" else 100, least=2) as shards:
                 shards.answer(puts(range(40)))
                 count = len(shards.lengths())
-                shards.at = at
+                cluster = shards._cluster
+                cluster.__class__ = CutCluster
+                cluster.at = at
                 try:
                     getattr(shards, move)(0)
                 except Cut:
                     pass
+                if at != "table":
+                    cluster.at = None
+                    same(f"a {move} that is cut off at {at}, by the same client", wanted, shards.range(0, GREATEST))
             with Shards(client, here, shards=count, limit=100, least=40, sync=True) as shards:
                 same(f"a {move} that is cut off at {at}", wanted, shards.range(0, GREATEST))
-                same(f"a {move} that is cut off at {at}, ranks", [(True, 0), (True, 20), (True, 39)], [shards.rank(k) for k in (0, 20, 39)])
-                kept = {"lock", "table", *(place.name for place in shards._places)}
+                same(
+                    f"a {move} that is cut off at {at}, ranks",
+                    [(True, 0), (True, 20), (True, 39)],
+                    [shards.rank(k) for k in (0, 20, 39)],
+                )
+                kept = {"lock", "table", *(place.name for place in shards._cluster.places)}
                 same(f"a {move} that is cut off at {at}, its files", kept, set(os.listdir(here)))
 
 
@@ -644,7 +859,11 @@ def calls(client, folder: str) -> None:
                     ("range", lambda: shards.range(key, other), [(it, model[it]) for it in keys if key <= it < other]),
                     ("back", shards.back, [(it, model[it]) for it in reversed(keys)]),
                     ("from_key", lambda: shards.from_key(key, size * 3), [(it, model[it]) for it in keys[at:][: size * 3]]),
-                    ("back_from", lambda: shards.back_from(key, size * 3), [(it, model[it]) for it in keys[:above][::-1][: size * 3]]),
+                    (
+                        "back_from",
+                        lambda: shards.back_from(key, size * 3),
+                        [(it, model[it]) for it in keys[:above][::-1][: size * 3]],
+                    ),
                     ("page", lambda: shards.page(place // 10, size), [(it, model[it]) for it in keys[place // 10 * size :][:size]]),
                 ]
             )
@@ -666,9 +885,8 @@ def calls(client, folder: str) -> None:
         same("more than two shards", True, len(shards.lengths()) > 2)
         at_most = {"get": 1, "contains": 1, "rank": 1, "at": 1, "first": 1, "last": 1, "next": 2, "prev": 2, "len": 0}
         same("how many shards a call asks at most", at_most, {name: most[name] for name in at_most})
-        raises("a folder that cannot be made", NotWritten, "cannot be made", Shards, client, "/dev/null/folder")
-        # Memory that is refused in a shard: what it had is opened again.
-        shards._places[0].let_go()
+        raises("a folder that cannot be made", NotWrittenError, "cannot be made", Shards, client, "/dev/null/folder")
+        shards._cluster.forget(shards._cluster.places[0])
         same("a shard that is opened again", len(model), len(shards.range(0, GREATEST)))
         raises("a key that is too great", OverflowError, "is not from 0", shards.put, GREATEST + 1, 0)
         raises("a folder that is in use", ShardError, "is in use by another client", Shards, client, folder)
@@ -717,6 +935,18 @@ def small_shards(client, folder: str) -> None:
             same_answers(f"small shards, batches of {batch}, places {has_places}", lines, wanted, shards.answer(lines))
 
 
+def in_workers(client, function, *arguments) -> None:
+    """Calls a function in each worker that is there. Client.run would wait half a minute for one that was killed just now."""
+    given = {"function": pickle.dumps(function), "args": pickle.dumps(arguments), "wait": True}
+
+    async def call_each() -> None:
+        cluster = Cluster(client, "", False, 1)
+        calls = (cluster._answer(worker, client.rpc(worker).run(**given)) for worker in await cluster.workers())
+        await asyncio.gather(*calls, return_exceptions=True)
+
+    client.sync(call_each)
+
+
 def limit_files(size: int) -> None:
     resource.setrlimit(resource.RLIMIT_FSIZE, (size, resource.RLIM_INFINITY))
 
@@ -728,38 +958,337 @@ def full_disk(client, folder: str) -> None:
         shards.answer(lines)
         model = {key: 7 for key in range(0, 3000, 5)}
         sizes = [os.path.getsize(os.path.join(at, name)) for at, _, names in os.walk(folder) for name in names]
-        client.run(limit_files, max(sizes) + 5000)
+        in_workers(client, limit_files, max(sizes) + 5000)
+        failed = None
         try:
-            refused = None
             for turn in range(2000):
                 batch = puts(range(turn * 7 % 3000, turn * 7 % 3000 + 40), turn)
                 try:
                     answers = shards.answer(batch)
-                except Refused as error:
-                    refused = error
-                    # (those before the first that was refused)
-                    answers = error.answers
+                except BatchError as error:
+                    failed = error
+                    break
                 for line, answer in zip(batch, answers):
                     _, key, value = map(int, line.replace(b"put", b"0").split())
                     if answer != (b"old %d" % model[key] if key in model else b"new"):
                         same("an answer while the disk fills", model.get(key), answer)
                     model[key] = value
-                if refused:
-                    break
-            same("a full disk refuses", True, refused is not None)
-            said = str(refused)
-            same("a full disk, what it says", True, "cannot be written: " in said or said)
-            same("a full disk: reading goes on", [b"%d" % model[5]], shards.answer([b"get 5"]))
+            same(
+                "a full disk fails",
+                (True, []),
+                (isinstance(failed, BatchError) and isinstance(failed.error, NotWrittenError), failed.answers),
+            )
+            same("a full disk, what it says", True, "cannot be written: " in str(failed) or str(failed))
+            same(
+                "a full disk: reading goes on, and nothing of the batch was done", sorted(model.items()), shards.range(0, GREATEST)
+            )
+            many = list(range(60_000))
+            raises("arrays on a full disk", NotWrittenError, "cannot be written: ", shards.put_many, many, many)
+            raises("a removal on a full disk", NotWrittenError, "cannot be written: ", shards.delete_many, many)
+            raises("a load on a full disk", NotWrittenError, "cannot be written: ", shards.from_arrays, many, many)
+            same("and nothing of these", sorted(model.items()), shards.range(0, GREATEST))
+            # The shards that had done their part are told to cancel it by workers that are killed first.
+            shards._cluster.forget(shards._cluster.places[0])
         finally:
-            client.run(limit_files, resource.RLIM_INFINITY)
-        # Lines behind the refused one can have been done by other shards, and none of them was answered.
-        later = {int(line.split()[1]) for line in batch[len(answers) :]}
-        found = dict(shards.range(0, GREATEST))
-        same("what was answered stands", [], [key for key in model if key not in later and found.get(key) != model[key]])
-        same("a put after there is room again", found.get(1), shards.put(1, 123))
-        found[1] = 123
+            in_workers(client, limit_files, resource.RLIM_INFINITY)
+        same("and after there is room again", sorted(model.items()), shards.range(0, GREATEST))
+        same("a put after it", model.get(1), shards.put(1, 123))
+        model[1] = 123
     with Shards(client, folder, shards=3) as shards:
-        same("and after all was opened again", sorted(found.items()), shards.range(0, GREATEST))
+        same("and after all was opened again", sorted(model.items()), shards.range(0, GREATEST))
+
+
+def lost_cancels(client, folder: str) -> None:
+    """A batch fails in one shard, and the worker of another one dies before it can undo its part: that is undone when it is opened."""
+    killer = Killer(client)
+    for is_reopened in (False, True):
+        # (those that were killed start again)
+        client.wait_for_workers(3, timeout=60)
+        with Shards(client, os.path.join(folder, str(is_reopened)), shards=3, least=8) as shards:
+            keys = list(range(90))
+            shards.from_arrays(keys, keys)
+            same("three shards on three workers", 3, len(set(shards.processes())))
+            processes = shards.processes()
+            bounds = shards.bounds()
+            path = os.path.join(folder, str(is_reopened), shards._cluster.places[1].name)
+
+            class KillingCluster(Cluster):
+                async def send(self, worker, what, **given):
+                    if what == "cancel" and worker == self.places[0].worker:
+                        killer.kill(processes[0])
+                    return await super().send(worker, what, **given)
+
+            shards._cluster.__class__ = KillingCluster
+            size = max(os.path.getsize(os.path.join(path, name)) for name in os.listdir(path))
+            in_workers(client, limit_files, size + 100)
+            try:
+                # (a few pairs for the first shard, and more than there is room for in the second)
+                many = [*keys[:2], *range(bounds[0], bounds[1]), *range(bounds[0], bounds[1])]
+                raises(
+                    "a batch that fails in one shard",
+                    NotWrittenError,
+                    "cannot be written: ",
+                    shards.put_many,
+                    many,
+                    [5] * len(many),
+                )
+            finally:
+                in_workers(client, limit_files, resource.RLIM_INFINITY)
+            same("what was not undone is in the table", 1, len(shards._cluster.places[0].cancelled))
+            shards._cluster.__class__ = Cluster
+            if not is_reopened:
+                same("a batch whose undoing was cut off", [(key, key) for key in keys], shards.range(0, GREATEST))
+                # (the table has that batch still)
+                shards.put_many(keys, [9] * len(keys))
+        value = {key: key if is_reopened else 9 for key in keys}
+        with Shards(client, os.path.join(folder, str(is_reopened)), shards=3, least=8) as shards:
+            same("and opened again", list(value.items()), shards.range(0, GREATEST))
+
+
+def lost_workers(client, folder: str) -> None:
+    """A batch is done in all shards, and no worker can be reached any more before it is answered: it raises, and is undone later."""
+
+    class LosingCluster(Cluster):
+        async def send(self, worker, what, **given):
+            reply = await super().send(worker, what, **given)
+            if what == "batch":
+                self.is_lost = True
+                raise OSError("the connection broke")
+            return reply
+
+        async def workers(self):
+            return [] if getattr(self, "is_lost", False) else await super().workers()
+
+    keys = list(range(60))
+    for name, change in [
+        ("put_many", lambda shards: shards.put_many(range_of(80), range_of(80))),
+        ("delete_many", lambda shards: shards.delete_many(keys)),
+        ("clear", lambda shards: shards.answer([b"clear"])),
+    ]:
+        here = os.path.join(folder, name)
+        with Shards(client, here, shards=3, least=8, patience=1) as shards:
+            shards.from_arrays(keys, keys)
+            shards._cluster.__class__ = LosingCluster
+            # (a BatchError has the LostError in it)
+            for _ in range(2):
+                raises(f"{name} without workers", ShardError, "there is no worker for ", change, shards)
+        sizes = [os.path.getsize(os.path.join(at, it)) for at, _, names in os.walk(here) for it in names if it.startswith("log-")]
+        same(f"{name}, logs that have the batch", 3, sum(size > 0 for size in sizes))
+        for _ in range(2):
+            with Shards(client, here, shards=3, least=8) as shards:
+                same(f"{name}, after all was opened again", [(key, key) for key in keys], shards.range(0, GREATEST))
+
+
+def range_of(end: int) -> array:
+    return array("Q", range(end))
+
+
+def refuse_in_worker(nth: int) -> int:
+    """The nth allocation of the library fails, or none with 0."""
+    return ctypes.CDLL(None).shards_refuse(ctypes.c_long(nth))
+
+
+def columns_run(client, folder: str) -> None:
+    """Keys by arrays beside a plain sorted array: workers are killed, disks fill and allocations fail meanwhile."""
+    killer, draw = Killer(client), numpy.random.default_rng(8)
+    whole, done, raised_by, turn = model.Model(), 0, {}, 0
+    batch = max(KEYS // 200, 1000)
+    may_refuse = "refuse.so" in os.environ.get("LD_PRELOAD", "")
+    began = time.monotonic()
+    wrong: list = []
+    with Shards(client, folder, shards=6, least=256, limit=1 << 40, sync=False) as shards:
+        while done < KEYS:
+            turn += 1
+            limit = 2 * KEYS if turn % 40 < 20 else KEYS // 10
+            keys = draw.integers(0, limit, batch).astype(numpy.uint64)
+            if turn % 7 == 0:
+                # (all in one shard)
+                keys = keys // numpy.uint64(16)
+            values = draw.integers(0, 1 << 63, batch).astype(numpy.uint64)
+            if turn in (31, 83, 147):
+                killer.later(int(draw.choice(shards.processes())), float(draw.random()) * 0.05)
+            if turn % 11 == 5:
+                sizes = [os.path.getsize(os.path.join(at, name)) for at, _, names in os.walk(folder) for name in names]
+                in_workers(client, limit_files, max(max(sizes) - int(draw.integers(0, max(sizes))), 4096))
+            kind = ("put", "put", "get", "rank", "at", "del", "range")[turn % 7 if turn % 40 < 30 else 5]
+            if kind == "put" and turn % 11 in (3, 7, 9) and may_refuse:
+                nth = int(draw.integers(1, 12))
+                in_workers(client, refuse_in_worker, nth if turn % 2 else -nth)
+            try:
+                if kind == "put":
+                    shards.put_many(keys, values)
+                    whole.put(keys, values)
+                elif kind == "del":
+                    if not numpy.array_equal(shards.delete_many(keys), whole.remove(keys)):
+                        wrong.append((turn, kind))
+                elif kind == "get":
+                    came, found = shards.get_many(keys)
+                    at, there = whole.where(keys)
+                    if not numpy.array_equal(found, there) or not numpy.array_equal(came[there], whole.values[at[there]]):
+                        wrong.append((turn, kind))
+                elif kind == "rank":
+                    if not numpy.array_equal(shards.rank_many(keys), whole.where(keys)[0]):
+                        wrong.append((turn, kind))
+                elif kind == "at":
+                    at = draw.integers(0, len(whole.keys) + 10, batch)
+                    came, came_values, found = shards.at_many(at)
+                    inside = at < len(whole.keys)
+                    is_right = numpy.array_equal(found, inside) and numpy.array_equal(came[inside], whole.keys[at[inside]])
+                    if not is_right or not numpy.array_equal(came_values[inside], whole.values[at[inside]]):
+                        wrong.append((turn, kind))
+                else:
+                    low, high = sorted(draw.integers(0, limit, 2).tolist())
+                    came, came_values = shards.range_arrays(low, high)
+                    start, end = numpy.searchsorted(whole.keys, numpy.array([low, high], numpy.uint64))
+                    if not numpy.array_equal(came, whole.keys[start:end]) or not numpy.array_equal(
+                        came_values, whole.values[start:end]
+                    ):
+                        wrong.append((turn, kind))
+                done += batch
+            except (NotWrittenError, OutOfMemoryError) as error:
+                raised_by[type(error).__name__] = raised_by.get(type(error).__name__, 0) + 1
+            finally:
+                if turn % 11 in (3, 5, 7, 9):
+                    in_workers(client, limit_files, resource.RLIM_INFINITY)
+                    if may_refuse:
+                        in_workers(client, refuse_in_worker, 0)
+            if turn % 10 == 0 or turn % 11 in (3, 5, 7, 9):
+                came, came_values = shards.range_arrays()
+                if not numpy.array_equal(came, whole.keys) or not numpy.array_equal(came_values, whole.values):
+                    wrong.append((turn, kind, "all pairs"))
+            if len(wrong) > 5:
+                break
+        print(f"{done} keys by arrays in {time.monotonic() - began:.1f} s, {shards.counts}, raised {raised_by}", flush=True)
+        same("calls for arrays that answer otherwise than a sorted array", [], wrong)
+        same("workers that were killed", 3, killer.killed)
+        same(
+            "shards were opened again, split and merged",
+            (True, True, True),
+            tuple(shards.counts[it] > 0 for it in ("opened again", "splits", "merges")),
+        )
+        same("batches that failed on a full disk, some", True, raised_by.get("NotWrittenError", 0) > 0)
+        if may_refuse:
+            same("batches in which an allocation failed, some", True, raised_by.get("OutOfMemoryError", 0) > 0)
+        else:
+            skip("allocations that fail in workers", "there is no C compiler")
+    with Shards(client, folder, shards=6, sync=False) as shards:
+        came, came_values = shards.range_arrays()
+        same(
+            "all pairs after all was opened again",
+            True,
+            numpy.array_equal(came, whole.keys) and numpy.array_equal(came_values, whole.values),
+        )
+
+
+def arrays(client, folder: str) -> None:
+    """The calls for arrays: what they take, and what they return at the edges."""
+    with Shards(client, folder, shards=3, least=4) as shards:
+        same("an empty list", [0, 0, 0], [len(it) for it in shards.at_many([])])
+        same("keys of none", ([0], [False]), tuple(it.tolist() for it in shards.get_many([7])))
+        same("ranks in none", [0], shards.rank_many([GREATEST]).tolist())
+        same("a range of none", ([], []), tuple(it.tolist() for it in shards.range_arrays()))
+        shards.put_many([], [])
+        shards.from_arrays([], [])
+        ends = [0, 1, GREATEST - 1, GREATEST]
+        # (of equal keys the last value stays)
+        shards.put_many([*ends, 5, 5], array("Q", [1, 2, 3, GREATEST, 6, 7]))
+        same(
+            "the least and the greatest keys",
+            ([0, 1, 5, GREATEST - 1, GREATEST], [1, 2, 7, 3, GREATEST]),
+            tuple(it.tolist() for it in shards.range_arrays()),
+        )
+        same("a range has not its end", [5], shards.range_arrays(2, GREATEST - 1)[0].tolist())
+        same("nor a range that ends before it begins", [], shards.range_arrays(9, 2)[0].tolist())
+        same("ranks at the ends", [0, 4, 2], shards.rank_many([0, GREATEST, 2]).tolist())
+        came = shards.at_many([4, 5, 0, GREATEST])
+        same("indexes", ([GREATEST, 0, 0, 0], [GREATEST, 0, 1, 0], [True, False, True, False]), tuple(it.tolist() for it in came))
+        same("keys that are removed twice", [True, False, False], shards.delete_many([5, 5, 6]).tolist())
+        same(
+            "arrays of 32 bits, and not in one piece",
+            [True, True],
+            shards.get_many(numpy.array([0, 9, 1], numpy.int32)[::2])[1].tolist(),
+        )
+        raises("a negative key", OverflowError, "is not from 0", shards.get_many, numpy.array([-1]))
+        raises("a negative key in a list", OverflowError, "", shards.get_many, [-1])
+        raises("keys of another type", TypeError, "an array of integers", shards.get_many, numpy.array([0.5]))
+        raises("two dimensions", TypeError, "one dimension", shards.get_many, numpy.zeros((2, 2), int))
+        raises("fewer values", ValueError, "3 keys and 2 values", shards.put_many, [1, 2, 3], [1, 2])
+        raises("fewer values for a load", ValueError, "3 keys and 2 values", shards.from_arrays, [1, 2, 3], [1, 2])
+        for name, keys in [
+            ("random", numpy.random.default_rng(3).permutation(3000)),
+            ("ascending", numpy.arange(3000)),
+            ("equal", numpy.full(3000, 9)),
+            ("few", numpy.array([4, 4, 0, 2])),
+        ]:
+            shards.from_arrays(keys, numpy.arange(len(keys)))
+            last = {int(key): at for at, key in enumerate(keys)}
+            same(
+                f"a load of {name} keys",
+                (sorted(last), [last[key] for key in sorted(last)]),
+                tuple(it.tolist() for it in shards.range_arrays()),
+            )
+            if len(last) == 3000:
+                same(f"shards of {name} keys", [1000] * 3, shards.lengths())
+        kept = {"lock", "table", *(place.name for place in shards._cluster.places)}
+        same("folders after loads", kept, set(os.listdir(folder)))
+        data_frames(client, shards, folder)
+        shards.answer([b"clear"])
+
+
+def data_frames(client, shards, folder: str) -> None:
+    try:
+        import dask.dataframe
+        import pandas
+    except ImportError as error:
+        skip("data frames", str(error))
+        return
+    keys = numpy.arange(0, 9000, 3)
+    shards.from_arrays(keys, keys * 2)
+    frame = shards.to_dask_dataframe()
+    same("divisions", ((0, *shards.bounds(), 8997), 3), (frame.divisions, frame.npartitions))
+    whole = frame.compute()
+    same(
+        "a data frame",
+        (keys.tolist(), (keys * 2).tolist(), "key"),
+        (whole.index.tolist(), whole["value"].tolist(), whole.index.name),
+    )
+    same("a part of it", [3000, 3003], frame.loc[3000:3005].compute().index.tolist())
+    shards.put(1, 1)
+    same("it is as it was", 3000, len(frame))
+    with Shards(client, os.path.join(folder, "of-frame"), shards=2) as other:
+        other.put(77, 7)
+        other.from_dask_dataframe(frame)
+        same("shards of a data frame", (keys.tolist(), (keys * 2).tolist()), tuple(it.tolist() for it in other.range_arrays()))
+        same("their bounds", shards.bounds(), other.bounds())
+        table = pandas.DataFrame({"price": [5, 6, 7]}, index=[10, 20, 30])
+        other.from_dask_dataframe(dask.dataframe.from_pandas(table, npartitions=2), "price")
+        same("shards of another one", [(10, 5), (20, 6), (30, 7)], other.range(0, GREATEST))
+        unknown = dask.dataframe.from_pandas(table, npartitions=2, sort=False)
+        raises("unknown divisions", ValueError, "are not known", other.from_dask_dataframe, unknown, "price")
+        wrong = dask.dataframe.from_pandas(table, npartitions=2)
+        wrong.divisions = (10, 15, 30)
+        raises("wrong divisions", ShardError, "its divisions are", other.from_dask_dataframe, wrong, "price")
+        same("then it is as before", [(10, 5), (20, 6), (30, 7)], other.range(0, GREATEST))
+    shutil.rmtree(os.path.join(folder, "of-frame"))
+
+
+def network(folder: str) -> None:
+    """Workers in network namespaces, with TLS, of which one is cut off."""
+    tried = subprocess.run(["unshare", "-n", "ip", "link"], stdout=subprocess.DEVNULL, stderr=subprocess.DEVNULL, check=False)
+    if os.geteuid() or tried.returncode or not shutil.which("openssl"):
+        skip("network namespaces", "they need root, iproute2 and openssl")
+        return
+    # (a part of the numbers of the long runs, since each message is encrypted on both sides)
+    words = [
+        os.path.join(os.path.dirname(os.path.abspath(__file__)), "network.py"),
+        folder,
+        PROGRAM,
+        str(LINES // 20),
+        str(KEYS // 2),
+    ]
+    done = subprocess.run([sys.executable, *words], stdout=subprocess.PIPE, timeout=1200, check=False)
+    print(done.stdout.decode(), end="", flush=True)
+    same("workers in network namespaces", (0, True), (done.returncode, b"\nsame " in done.stdout))
 
 
 def module(folder: str) -> None:
@@ -788,11 +1317,14 @@ def module(folder: str) -> None:
 
 
 def main() -> int:
-    if len(sys.argv) > 4:
+    if len(sys.argv) == 5:
         serve_until_killed(*sys.argv[3:])
         return 0
-    if len(sys.argv) > 3:
-        fill(os.path.join(sys.argv[3], "shard"), sys.argv[2] == "full")
+    alone = {"full": lambda it: fill(it, True), "small": lambda it: fill(it, False), "refused": refuse_each}.get(
+        sys.argv[2] if len(sys.argv) == 4 else ""
+    )
+    if alone:
+        alone(os.path.join(sys.argv[3], "shard"))
         return 0
 
     # (what a killed worker leaves unread)
@@ -812,9 +1344,15 @@ def main() -> int:
             return run
 
         trial(table_of_routes, routes_beside_a_list, routes_beside_the_proved)
-        trial(of(logs), of(stores), of(full_disks), of(one_shard), of(module))
+        trial(of(logs), of(stores), of(full_disks), of(full_each), of(one_shard), of(refused), of(module), of(network))
+        library = build_refuse(top)
+        if library:
+            os.environ["LD_PRELOAD"] = library
         with local_client(workers=3) as client:
-            trial(*(of(it, client) for it in (calls, emptied_shards, small_shards, killed_between, killed_client, cut_moves, full_disk, long_run)))
+            trial(
+                *(of(it, client) for it in (calls, arrays, emptied_shards, small_shards, killed_between, killed_client, cut_moves))
+            )
+            trial(*(of(it, client) for it in (full_disk, lost_cancels, lost_workers, columns_run, long_run)))
     print(f"{passed} passed, {failed} failed{f', {skipped} skipped' if skipped else ''}")
     return failed > 0
 

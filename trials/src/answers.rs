@@ -1,4 +1,4 @@
-//! Calls with answers that are known from outside, and lists of commands with their replies.
+//! Calls with results that are known from outside, and lists of commands with their replies.
 
 use crate::fixed::Talk;
 use crate::kind::{couple, marked, Kind};
@@ -7,7 +7,7 @@ use crate::scenario::{quiet, swept, Scenario, Step};
 use crate::words::{number, option};
 
 /// Parts, each of which begins with a line '# kind KIND: NAME' and with nothing made. A line has a
-/// call, its arguments, and behind an equals sign what it answers.
+/// call, its arguments, and behind an equals sign what it returns.
 const ANSWERS: &str = include_str!("../answers");
 
 /// Lists, each of which begins with a line '# NAME'. A line has a command, its arguments, and
@@ -46,7 +46,7 @@ fn key_of(word: &str) -> Option<u64> {
     }
 }
 
-// The words of a number, or of none.
+// The words of a number, or of `None`.
 fn number_if(answer: &str) -> Option<Vec<u64>> {
     match answer {
         "none" => Some(number(None)),
@@ -70,8 +70,8 @@ fn pair_if(kind: Kind, answer: &str) -> Option<Vec<u64>> {
     }
 }
 
-// The steps of a walk over these pairs, and what it shows. Few are taken one by one. Then none
-// comes at the front, and none at the back.
+// The steps of a walk over these pairs, and what it shows. Few are taken one by one. Then nothing
+// comes at the front, and nothing at the back.
 fn walk(pairs: &[Vec<u64>]) -> ([u64; 2], Vec<u64>) {
     let len = pairs.len() as u64;
     if len > 60 {
@@ -88,8 +88,8 @@ fn walk(pairs: &[Vec<u64>]) -> ([u64; 2], Vec<u64>) {
     ([2 << len, steps(len + 2, 0)], words)
 }
 
-// A walk over so many pairs, whose keys and values count from a number on: 'FIRST LEN'. A key has
-// the group before its number, where there is one.
+// A walk over so many pairs, whose keys and values count from a number on: 'FIRST LEN'. A key of
+// a group has it before its number.
 fn counted(group: Option<u64>, answer: &str) -> Option<([u64; 2], Vec<u64>)> {
     let numbers = numbers(&split(answer))?;
     let [first, len] = *numbers.as_slice() else {
@@ -103,7 +103,7 @@ fn counted(group: Option<u64>, answer: &str) -> Option<([u64; 2], Vec<u64>)> {
     Some(walk(&(0..len).map(pair).collect::<Vec<Vec<u64>>>()))
 }
 
-// The summary of groups: 'none', '1 of GROUP:SIZE', or 'MANY of GROUP:SIZE to GROUP:SIZE'.
+// The summary of groups: `none`, '1 of GROUP:SIZE', or 'MANY of GROUP:SIZE to GROUP:SIZE'.
 fn summary(answer: &str) -> Option<Vec<u64>> {
     if answer == "none" {
         return Some(vec![0]);
@@ -457,7 +457,7 @@ pub fn many_commands(talk: &mut Talk) -> Result<(), String> {
     talk.expect(call(6, 1, &[]), &replies, "many commands")
 }
 
-// A call of which each request is refused in turn. What makes a map of items first asks for room
+// A call of which each allocation fails in turn. What makes a map of items first allocates room
 // for all of them, which it can do without.
 fn step(kind: Kind, record: Record) -> Step {
     let is_load = record.call == calls::load(0, 0).call;
@@ -471,7 +471,7 @@ fn scenario(part: &Part) -> Scenario {
     Scenario::new(&format!("known, {}", part.name), part.kind.0, steps)
 }
 
-// Each command of a list is run alone, and all of them at last, where nothing is refused.
+// Each command of a list is run alone, and all of them at last, with no failed allocation.
 fn one_by_one(list: &Part) -> Scenario {
     let run = call(6, 1, &[]);
     let records = list.lines.iter().flat_map(|line| &line.1);

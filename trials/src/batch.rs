@@ -5,7 +5,7 @@ use crate::fixed::{check, Outcome, Talk};
 use crate::record::{call, calls, Record};
 use std::ops::RangeInclusive;
 
-/// What a slice of values has where a call writes nothing.
+/// What a slice of values has at an index that a call does not write.
 pub const UNTOUCHED: u64 = u64::MAX - 8;
 
 /// So many keys: from a first one on, in steps that stay within a span. A span of 0 is that of all

@@ -1,5 +1,5 @@
 //! Calls in random order on a map over shards. At first two shards have few pairs, one has
-//! hundreds, one has thousands, or others have none; to one of these perhaps no key comes. Then
+//! hundreds, one has thousands, or others are empty; to one of these perhaps no key comes. Then
 //! shards are cut in two and put together while the calls go on.
 
 use crate::drawing::Drawing;
@@ -27,11 +27,11 @@ impl Drawing {
     /// Shards are begun, and filled.
     pub fn begin_shards(&mut self) -> Vec<Record> {
         let parts = match self.dice.below(4) {
-            // Few pairs, hundreds, none, and thousands.
+            // Few pairs, hundreds, 0, and thousands.
             0 => [4, 80, 80],
             // Hundreds, few, hundreds more, and thousands.
             1 => [60, 64, 140],
-            // Thousands, none, few, and few.
+            // Thousands, 0, few, and few.
             2 => [990, 990, 995],
             // To the second one no key comes.
             _ => [900, 700, 960],

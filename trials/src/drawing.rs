@@ -48,7 +48,7 @@ impl Drawing {
         }
     }
 
-    /// A place, at most three behind the last one.
+    /// An index, at most three behind the last one.
     pub fn place(&mut self) -> u64 {
         self.dice.below(self.model.here.len() as u64 + 3)
     }
@@ -64,7 +64,7 @@ impl Drawing {
         }
     }
 
-    /// The arguments of a query: a place, or a place in the group of a key.
+    /// The arguments of a query: an index, or an index in the group of a key.
     fn query(&mut self) -> (u64, u64) {
         let key = self.key();
         let place = if self.model.kind.has_groups() {
@@ -80,7 +80,7 @@ impl Drawing {
         }
     }
 
-    /// The steps of a walk, and where they are taken from.
+    /// The steps of a walk, and the end that each is taken from.
     fn walk(&mut self) -> (u64, u64) {
         let many = if self.dice.is_in(10) {
             self.dice.below(65)
@@ -90,7 +90,7 @@ impl Drawing {
         (self.dice.number(), steps(many, 0))
     }
 
-    /// Two keys: any, or two that stand close to each other.
+    /// Two keys: any, or two that are close to each other.
     pub fn two_keys(&mut self) -> (u64, u64) {
         let first = self.key();
         if self.dice.is_in(40) {
@@ -127,7 +127,7 @@ impl Drawing {
         }
     }
 
-    /// A value is written where a pair is.
+    /// A value of a pair is written.
     fn write(&mut self) -> Record {
         let value = self.dice.number();
         let (group, index) = self.query();
@@ -238,7 +238,7 @@ impl Drawing {
         }
     }
 
-    /// All are made, exchanged, copied, compared or handed over.
+    /// Whole maps are made, exchanged, copied, compared or moved.
     fn whole(&mut self) -> Record {
         let kind = self.model.kind;
         let (from, word) = self.walk();
@@ -301,13 +301,13 @@ impl Drawing {
         }
     }
 
-    // A key, and one a few places behind it.
+    // A key, and one a few indexes behind it.
     fn near(&mut self, key: u64) -> (u64, u64) {
         let place = self.model.here.rank(key) + self.dice.below(12) as usize;
         (key, self.model.here.key_at(place).unwrap_or(key))
     }
 
-    /// A call by places, or of a group.
+    /// A call by indexes, or of a group.
     fn places(&mut self) -> Record {
         let ((lo, hi), (from, word)) = (self.two_keys(), self.walk());
         let (key, index) = self.query();

@@ -1,5 +1,5 @@
 //! Trees of known pairs: false hints, no hint, visitors out of range, many pairs in and out, and a
-//! list of commands; shards and their functions; and calls with known answers.
+//! list of commands; shards and their functions; and calls with known results.
 
 use crate::answers;
 use crate::batch;
@@ -40,7 +40,7 @@ pub struct Talk {
 }
 
 fn fault(error: std::io::Error) -> String {
-    format!("the program does not answer: {error}")
+    format!("the program does not reply: {error}")
 }
 
 pub fn check(is_well: bool, error: impl Fn() -> String) -> Outcome {
@@ -109,12 +109,12 @@ pub fn all() -> Vec<Case> {
         Case::new("batches beside single calls", 4, batch::table),
         Case::new("functions of shards", 11, crate::routes::routes),
         Case::new("shards beside a list", 11, shards),
-        Case::new("known answers of pages", 4, answers::parts),
-        Case::new("known answers of groups", 20, answers::parts),
-        Case::new("known answers of sets", 7, answers::parts),
-        Case::new("known answers of shards", 11, answers::parts),
-        Case::new("known answers of equal keys", 21, answers::parts),
-        Case::new("known answers of owned values", 15, answers::parts),
+        Case::new("known results of pages", 4, answers::parts),
+        Case::new("known results of groups", 20, answers::parts),
+        Case::new("known results of sets", 7, answers::parts),
+        Case::new("known results of shards", 11, answers::parts),
+        Case::new("known results of equal keys", 21, answers::parts),
+        Case::new("known results of owned values", 15, answers::parts),
         Case::new("known replies to commands", 21, answers::lists),
         Case::new("ten thousand commands", 21, answers::many_commands),
     ];

@@ -11,7 +11,7 @@ use std::thread;
 /// No more errors are printed.
 pub const TOLD: usize = 20;
 
-/// Does something with each of some items, several at a time, and answers what came of each.
+/// Does something with each of some items, several at a time, and returns the result of each.
 pub fn each<T: Sync, R: Send>(items: &[T], work: impl Fn(&T) -> R + Sync) -> Vec<R> {
     let next = AtomicUsize::new(0);
     let results: Vec<Mutex<Option<R>>> = items.iter().map(|_| Mutex::new(None)).collect();

@@ -107,7 +107,7 @@ impl Kind {
         }
     }
 
-    /// Whether it is asked by places alone.
+    /// Whether its calls are by indexes alone.
     pub fn has_places(self) -> bool {
         matches!(self.0, 4 | 5)
     }

@@ -1,10 +1,10 @@
-//! Trials of the library, by a program that makes its calls: each request for memory is refused in
+//! Trials of the library, by a program that makes its calls: each allocation fails in
 //! turn, or calls in random order are compared with a model.
 //!
 //! `trials refuse PROGRAM SHIM SERVER [WORD]` carries out the scenarios, or those with a word in
 //! their names; `trials random PROGRAM SHIM [ROUNDS [KIND]]` the calls in random order, perhaps of a kind
 //! alone. The program is that of bptree_trials, the shim is built of tools/refuse.c, or is `-` for
-//! none, and the server is the program bptree. The last line is 'N passed, M failed'.
+//! no shim, and the server is the program bptree. The last line is 'N passed, M failed'.
 
 mod answers;
 mod batch;
@@ -50,7 +50,7 @@ fn program_of(path: &str, shim: &str) -> std::io::Result<Program> {
     })
 }
 
-// Carries out what the arguments name, and answers how many trials passed and failed.
+// Carries out what the arguments name, and returns how many trials passed and failed.
 fn carry_out(arguments: &[&str]) -> Option<(u64, u64)> {
     let (path, shim) = (arguments.get(1)?, arguments.get(2)?);
     let program = program_of(path, shim).ok()?;

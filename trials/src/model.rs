@@ -1,4 +1,4 @@
-//! What calls are to answer, by the pairs that they leave.
+//! What calls are to return, by the pairs that they leave.
 
 pub mod pairs;
 
@@ -94,7 +94,7 @@ impl Model {
         }
     }
 
-    /// What a call is to answer, once it was made here. None where that is not known.
+    /// What a call is to return, once it was made here. `None` if that is not known.
     pub fn answer(&mut self, record: &Record) -> Option<Answer> {
         let kind = self.kind;
         if kind.is_shards() {
@@ -133,7 +133,7 @@ impl Model {
         words
     }
 
-    /// The words of a pair, or of a key where there are no values.
+    /// The words of a pair, or of a key if there are no values.
     pub fn pair(&self, (key, value): (u64, u64)) -> Vec<u64> {
         let mut words = self.key(key);
         if !self.kind.is_set() {
@@ -142,7 +142,7 @@ impl Model {
         words
     }
 
-    /// The same where there may be none.
+    /// The words of a pair that may be absent.
     pub fn pair_if(&self, pair: Option<(u64, u64)>) -> Vec<u64> {
         crate::words::option(pair.map(|pair| self.pair(pair)))
     }
@@ -155,7 +155,7 @@ impl Model {
         (from, to)
     }
 
-    /// The place that a query is for: of an index, or of an index in the group of a number.
+    /// The index that a query is for: of an index, or of an index in the group of a number.
     pub fn found(&self, number: u64, index: u64) -> Option<usize> {
         let (from, to) = if self.kind.has_groups() {
             self.places_of(self.kind.group_of(number))
@@ -182,7 +182,7 @@ impl Model {
         vec![1, group, (rank - from) as u64]
     }
 
-    /// The summary of the keys from one place up to another.
+    /// The summary of the keys from one index up to another.
     pub fn summary(&self, from: usize, to: usize) -> Vec<u64> {
         let keys = self.here.keys();
         let to = to.min(keys.len());

@@ -179,7 +179,7 @@ fn leaf_of(kind: Kind, place: &Place, reply: &Reply) -> Told<Leaf> {
 fn ask(process: &mut Process, places: &[Place]) -> Told<Vec<Reply>> {
     let records: Vec<Record> = places.iter().map(Place::record).collect();
     let replies = process.ask(&records);
-    replies.map_err(|error| format!("the program does not answer: {error}"))
+    replies.map_err(|error| format!("the program does not reply: {error}"))
 }
 
 // The leaves are linked in their order, in both directions.
@@ -216,7 +216,7 @@ pub struct Nodes {
 /// pairs.
 pub fn check(process: &mut Process, kind: Kind, pairs: &Pairs) -> Told<Nodes> {
     let state = process.ask_one(calls::state());
-    let state = state.map_err(|error| format!("the program does not answer: {error}"))?;
+    let state = state.map_err(|error| format!("the program does not reply: {error}"))?;
     let mut words = Words {
         words: &state.words,
         kind,

@@ -12,7 +12,7 @@ use std::process::{Child, ChildStdin, Command, Stdio};
 use std::sync::atomic::{AtomicU64, Ordering};
 use std::time::Duration;
 
-/// A program that does not answer for so long fails.
+/// A program that does not reply for so long fails.
 const LIMIT: Duration = Duration::from_secs(60);
 
 static STARTED: AtomicU64 = AtomicU64::new(0);
@@ -22,12 +22,12 @@ static STARTED: AtomicU64 = AtomicU64::new(0);
 pub struct Program {
     pub path: PathBuf,
     pub shim: Option<PathBuf>,
-    /// Where the files stand in which requests are counted.
+    /// The folder of the files in which requests are counted.
     pub folder: PathBuf,
 }
 
 /// The page that tools/refuse.c shares: requests that were made, blocks that are left, blocks in
-/// all, and which of the next requests is refused.
+/// all, and which of the next requests fails.
 #[derive(Debug)]
 pub struct Counts {
     file: File,
@@ -58,12 +58,12 @@ impl Counts {
         self.read(BLOCKS)
     }
 
-    /// Has the request of this number, from 1, be refused. Of 0 none is.
+    /// Makes the request of this number, from 1, fail. Of 0 no request fails.
     pub fn refuse(&self, number: u64) -> Result<()> {
         self.file.write_all_at(&number.to_le_bytes(), REFUSE)
     }
 
-    /// Whether the request was refused that was to be.
+    /// Whether the request failed that was to fail.
     pub fn was_refused(&self) -> Result<bool> {
         Ok(self.read(REFUSE)? == 0)
     }
@@ -155,7 +155,7 @@ impl Process {
         })
     }
 
-    /// Makes calls, and answers their replies.
+    /// Makes calls, and returns their replies.
     pub fn ask(&mut self, records: &[Record]) -> Result<Vec<Reply>> {
         let mut replies = Vec::with_capacity(records.len());
         for chunk in records.chunks(CHUNK / RECORD) {
@@ -173,7 +173,7 @@ impl Process {
         self.read_reply()
     }
 
-    /// Closes the input, and answers whether the program ends well: with status 0, no further
+    /// Closes the input, and returns whether the program ends well: with status 0, no further
     /// output, and no block of memory left.
     pub fn end(mut self) -> Result<bool> {
         self.to = None;

@@ -44,7 +44,7 @@ pub fn rounds(many: u64) -> Vec<Round> {
 }
 
 fn fault(error: std::io::Error) -> String {
-    format!("the program does not answer: {error}")
+    format!("the program does not reply: {error}")
 }
 
 // Sends records, and compares each reply with what is wanted.

@@ -34,7 +34,7 @@ impl Record {
     }
 
     /// Whether the reply depends on how the nodes are cut: a look at nodes, a visit, or what keys and
-    /// values count. The models have answers to all other calls.
+    /// values count. The models have results for all other calls.
     pub fn is_of_nodes(&self) -> bool {
         matches!(self.family(), 5 | 7 | 12)
     }

@@ -1,4 +1,4 @@
-//! All scenarios, with each request refused in turn.
+//! All scenarios, with each request failing in turn.
 
 use crate::jobs::{each, TOLD};
 use crate::process::Program;
@@ -13,7 +13,7 @@ use std::path::Path;
 /// How many requests each scenario makes: lines 'NAME: N'.
 const REQUESTS: &str = include_str!("../requests");
 
-/// So many requests are refused at least.
+/// So many requests fail at least.
 const LEAST: u64 = 24_635;
 
 fn pinned() -> BTreeMap<&'static str, u64> {
@@ -47,7 +47,7 @@ impl Sum {
         }
         let zero = name.ends_with("without memory") && outcome.requests > 0;
         if wanted != Some(&outcome.requests) || zero {
-            let wanted = wanted.map_or("none that are written".to_string(), u64::to_string);
+            let wanted = wanted.map_or("an unwritten number".to_string(), u64::to_string);
             let many = outcome.requests;
             self.errors
                 .push(format!("{name} makes {many} requests in place of {wanted}"));
@@ -57,14 +57,14 @@ impl Sum {
     fn end(mut self, is_whole: bool) -> (u64, u64) {
         for word in WANTED {
             let many = self.met.get(word).copied().unwrap_or(0);
-            println!("refused, {word}: {many}");
+            println!("failed, {word}: {many}");
             if many == 0 && is_whole {
-                self.errors.push(format!("none was refused, {word}"));
+                self.errors.push(format!("no request failed, {word}"));
             }
         }
         println!("{} requests", self.requests);
         if self.requests < LEAST && is_whole {
-            self.errors.push(format!("fewer than {LEAST} were refused"));
+            self.errors.push(format!("fewer than {LEAST} failed"));
         }
         for error in self.errors.iter().take(TOLD) {
             eprintln!("refuse-allocations: {error}");

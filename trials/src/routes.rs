@@ -1,10 +1,10 @@
-//! The functions of shards over plain numbers, with answers that were written by hand.
+//! The functions of shards over plain numbers, with results that were written by hand.
 
 use crate::fixed::Talk;
 use crate::record::call;
 
 /// A line has the name of a function, the numbers of the shards with commas between, further
-/// arguments, and behind an equals sign what it answers.
+/// arguments, and behind an equals sign what it returns.
 const LINES: &str = include_str!("../routes");
 
 // The numbers of a list; of "-" there are none.
@@ -15,7 +15,7 @@ fn numbers(text: &str) -> Option<Vec<u64>> {
     text.split(',').map(|number| number.parse().ok()).collect()
 }
 
-// The words of an answer: of an optional one a 1 first, or a 0 alone.
+// The words of a result: of an optional one a 1 first, or a 0 alone.
 fn wanted(name: &str, answer: &str) -> Option<Vec<u64>> {
     if name.starts_with("route") {
         return numbers(answer);

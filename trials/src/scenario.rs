@@ -1,14 +1,14 @@
-//! Scenarios: calls in a row, some of which have each of their requests refused in turn.
+//! Scenarios: calls in a row, some of which have each of their requests fail in turn.
 
 use crate::record::Record;
 
 /// A call of a scenario.
 #[derive(Clone, Debug)]
 pub struct Step {
-    /// Made before the call is made again. They change nothing that a refusal must leave.
+    /// Made before the call is made again. They change nothing that a failure must leave.
     pub again: Vec<Record>,
     pub record: Record,
-    /// Whether each request of the call is refused in turn.
+    /// Whether each request of the call fails in turn.
     pub is_swept: bool,
     /// How many of its requests it can do without.
     pub hints: u64,
@@ -18,7 +18,7 @@ pub struct Step {
     pub height: Option<u64>,
 }
 
-/// A call of which nothing is refused.
+/// A call of which no request fails.
 pub fn quiet(record: Record) -> Step {
     Step {
         again: Vec::new(),
@@ -30,7 +30,7 @@ pub fn quiet(record: Record) -> Step {
     }
 }
 
-/// A call of which each request is refused in turn.
+/// A call of which each request fails in turn.
 pub fn swept(record: Record) -> Step {
     Step {
         is_swept: true,

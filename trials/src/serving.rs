@@ -1,11 +1,11 @@
-//! The line server, with each of its requests refused in turn.
+//! The line server, with each of its requests failing in turn.
 
 use crate::process::Program;
 use std::io::Write;
 use std::path::Path;
 use std::process::{Command, Stdio};
 
-/// The exit status for memory that was refused.
+/// The exit status for an allocation that failed.
 const OUT_OF_MEMORY: i32 = 3;
 
 /// Lines of all kinds.
@@ -17,7 +17,7 @@ const FEW_ANSWERS: &str = "new\nnew\nold 20\nin 1\nout 2\n1 10\n2 21\ngone 10\n2
 /// So many lines put a pair.
 const MANY: usize = 300;
 
-/// An input, its answers, and its name.
+/// An input, its replies, and its name.
 pub struct Lines {
     pub name: &'static str,
     input: String,
@@ -31,7 +31,7 @@ fn first_lines(text: &str, many: usize) -> String {
     text.split_inclusive('\n').take(many).collect()
 }
 
-/// The inputs. A leaf has room for 64 pairs, and where one more comes behind them 32 stay in it. So of
+/// The inputs. A leaf has room for 64 pairs, and if one more comes behind them, 32 stay in it. So of
 /// pairs that come in their order those behind 64, 96, 128 and so on take memory.
 pub fn all() -> Vec<Lines> {
     let put = |place: usize| format!("put 1{place:03} 7\n");
@@ -51,7 +51,7 @@ pub fn all() -> Vec<Lines> {
     ]
 }
 
-/// What came of a run: its status, its answers, how many requests it made, whether one was refused,
+/// What came of a run: its status, its replies, how many requests it made, whether one failed,
 /// and the blocks that it left.
 struct Run {
     status: Option<i32>,
@@ -62,8 +62,8 @@ struct Run {
     left: u64,
 }
 
-// Runs the program on the first lines of an input, with the request of a number refused, or of 0
-// none.
+// Runs the program on the first lines of an input, with the request of a number failing, or with 0
+// no request.
 fn run(
     (server, program): (&Path, &Program),
     lines: &Lines,
@@ -106,7 +106,7 @@ fn run(
     })
 }
 
-// How many requests the program makes for each number of first lines, with nothing refused.
+// How many requests the program makes for each number of first lines, with no failure.
 fn requests_of_first(programs: (&Path, &Program), lines: &Lines) -> Result<Vec<u64>, String> {
     let all = lines.input.lines().count();
     (0..=all)
@@ -121,14 +121,14 @@ fn lines_that_take(requests: &[u64]) -> Vec<usize> {
     takes.map(|(before, _)| before).collect()
 }
 
-// What is not as it must be of a run in which a request was refused. All lines before the one that
-// makes the request are answered, and no more.
+// What is not as it must be of a run in which a request failed. All lines before the one that
+// makes the request have their replies, and no more.
 fn fault_of(lines: &Lines, run: &Run, answered: usize) -> Option<String> {
     if run.status != Some(OUT_OF_MEMORY) || run.errors != "out of memory\n" {
         Some(format!("status {:?}, {:?}", run.status, run.errors))
     } else if run.said != first_lines(&lines.answers, answered) || run.left > 0 {
         Some(format!(
-            "{:?} in place of {answered} answers, {} blocks left",
+            "{:?} in place of {answered} replies, {} blocks left",
             run.said, run.left
         ))
     } else {
@@ -136,7 +136,7 @@ fn fault_of(lines: &Lines, run: &Run, answered: usize) -> Option<String> {
     }
 }
 
-/// Serves an input again and again, with one more request refused each time. Answers how many
+/// Serves an input again and again, with one later request failing each time. Returns how many
 /// requests it makes, and what was not as it must be.
 pub fn carry_out(
     server: &Path,

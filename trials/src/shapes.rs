@@ -1,4 +1,4 @@
-//! How the nodes of a tree stand, and what a call does to them.
+//! The sizes of the nodes of a tree, and what a call does to them.
 
 use crate::words::Reply;
 
@@ -19,7 +19,7 @@ pub struct Shape {
 }
 
 impl Shape {
-    /// What a reply tells.
+    /// What a reply says.
     pub fn of(reply: &Reply) -> Shape {
         let level = |nodes: usize, rotated: usize, merged: usize| Level {
             nodes: reply.word(nodes),

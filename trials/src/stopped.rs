@@ -1,5 +1,5 @@
-//! What a call may leave that can stop in the middle: which pairs have moved, which is in hand, and
-//! which stayed. And which calls go on in another way if memory is refused.
+//! What a call may leave that can stop in the middle: which pairs have moved, which is moving, and
+//! which stayed. And which calls go on in another way if an allocation fails.
 
 use crate::batch::Batch;
 use crate::kind::Kind;
@@ -29,9 +29,9 @@ fn takes_back(model: &Model, record: &Record) -> bool {
     !removals_can_fail(&model.kind) && come < model.here.len() / 16
 }
 
-/// Whether a call is a removal of a range that removes the pairs one by one if memory is refused. It
-/// then succeeds, and the pairs are those after a call of which nothing is refused, but the nodes need
-/// not be.
+/// Whether a call is a removal of a range that removes the pairs one by one if an allocation fails.
+/// It then succeeds, and the pairs are those after a call without a failure, but the nodes need not
+/// be.
 pub fn goes_on(model: &Model, record: &Record) -> bool {
     let is_removal = (record.family(), record.member()) == (8, 4) && !model.kind.is_shards();
     is_removal && !removals_can_fail(&model.kind)
@@ -95,7 +95,7 @@ impl Stop<'_> {
     }
 
     // Nothing has come. The reply has no words or, of a call that reports what was there before, those
-    // of a call of which nothing is refused.
+    // of a call of which no request fails.
     fn taken_back(&self) -> Result<Model, String> {
         let whole = self.model.clone().answer(self.record).unwrap_or_default();
         let words = if self.reply.len == 0 {

@@ -1,5 +1,5 @@
-//! The line server over streams in memory: inputs and their answers, bad lines, long inputs, and
-//! streams that fail. The answers were written by hand.
+//! The line server over streams in memory: inputs and their replies, bad lines, long inputs, and
+//! streams that fail. The replies were written by hand.
 
 use crate::process::{Process, Program};
 use crate::record::{call, Record};
@@ -47,7 +47,7 @@ pub fn all() -> Vec<Case> {
     let case = |name, run| Case { name, run };
     vec![
         case(
-            "lines and their answers",
+            "lines and their replies",
             examples as fn(&mut Process) -> Outcome,
         ),
         case("bad lines", bad_lines),
@@ -59,7 +59,7 @@ pub fn all() -> Vec<Case> {
 
 /// Carries out a case.
 pub fn carry_out(program: &Program, case: &Case) -> Outcome {
-    let fault = |error: std::io::Error| format!("{}: no answer: {error}", case.name);
+    let fault = |error: std::io::Error| format!("{}: no reply: {error}", case.name);
     let mut process = Process::start(program, KIND).map_err(fault)?;
     (case.run)(&mut process).map_err(|error| format!("{}: {error}", case.name))?;
     if process.end().map_err(fault)? {
@@ -240,7 +240,7 @@ const BAD_LINES: [&[u8]; 45] = [
     b"get \xff\x00",
 ];
 
-// A bad line is answered so, and changes nothing.
+// The reply to a bad line is `bad`, and it changes nothing.
 fn is_bad(process: &mut Process, line: &[u8]) -> Outcome {
     let input = [line, b"\nlen"].concat();
     answers(process, &input, b"bad\n0\n")
@@ -250,7 +250,7 @@ fn bad_lines(process: &mut Process) -> Outcome {
     BAD_LINES.iter().try_for_each(|line| is_bad(process, line))
 }
 
-// A line of a megabyte is one answer, whatever it begins with.
+// A line of a megabyte has one reply, whatever it begins with.
 fn long_line(process: &mut Process) -> Outcome {
     let mut line = b"put 1 1".to_vec();
     line.resize(1_000_000, b'0');
@@ -288,7 +288,8 @@ const FAULTY: [Faulty; 11] = [
     ("len\n", 4, 0, 100, 100, true, ""),
 ];
 
-// The lines that were read are answered before the read that fails. A line that it cuts off is not.
+// The replies to the lines that were read come before the read that fails. A line that it cuts off has
+// no reply.
 fn faults(process: &mut Process) -> Outcome {
     for (input, read, reads, write, room, can_flush, written) in FAULTY {
         let streams = Streams {

@@ -1,4 +1,4 @@
-//! Has each request of a call refused in turn, and looks at what the call leaves.
+//! Makes each request of a call fail in turn, and looks at what the call leaves.
 
 use crate::model::{Answer, Model};
 use crate::nodes;
@@ -22,14 +22,14 @@ pub struct Outcome {
     pub requests: u64,
     pub passed: u64,
     pub errors: Vec<String>,
-    /// How many requests were refused at each height, and before each change of nodes.
+    /// How many requests failed at each height, and before each change of nodes.
     pub met: BTreeMap<&'static str, u64>,
 }
 
 type Told<T> = Result<T, String>;
 
 fn fault(error: std::io::Error) -> String {
-    format!("the program does not answer: {error}")
+    format!("the program does not reply: {error}")
 }
 
 /// The report of all that a subject has: a reply to each question.
@@ -42,7 +42,7 @@ struct Trial {
     model: Model,
 }
 
-// The questions that tell a state, and whether the replies at these places are to be 1.
+// The calls that read a state, and whether the replies at these indexes are to be 1.
 fn questions(model: &Model) -> Vec<Record> {
     let kind = model.kind;
     let mut records = Vec::new();
@@ -86,7 +86,7 @@ impl Trial {
         let mut told = Vec::with_capacity(replies.len());
         for (record, reply) in records.iter().zip(&replies) {
             if !reply.is_done() {
-                return Err(format!("{record:?} was refused"));
+                return Err(format!("{record:?} failed"));
             }
             let is_right = record.family() == 5 && record.member() > 0;
             if is_right && !self.model.kind.is_store() && !reply.has(&[1]) {
@@ -108,28 +108,28 @@ impl Trial {
         Ok(Shape::of(&self.ask(calls::shape())?))
     }
 
-    // Makes a call of which nothing is refused, and compares its reply with the model's.
+    // Makes a call of which no request fails, and compares its reply with the model's.
     fn make(&mut self, record: &Record) -> Told<Reply> {
         let reply = self.ask(*record)?;
         if !reply.is_done() {
-            return Err(format!("{record:?} was refused by itself"));
+            return Err(format!("{record:?} failed by itself"));
         }
         match self.model.answer(record) {
             Some(answer) => is_answered(record, &answer, &reply)?,
             None if record.is_of_nodes() => {}
-            None => return Err(format!("no answer to {record:?} is known")),
+            None => return Err(format!("no result of {record:?} is known")),
         }
         Ok(reply)
     }
 
-    // Makes calls of which nothing is refused, many at once.
+    // Makes calls of which no request fails, many at once.
     fn make_all(&mut self, records: &[Record]) -> Told<()> {
         let replies = self.ask_all(records)?;
         for (record, reply) in records.iter().zip(&replies) {
             match self.model.answer(record) {
                 Some(answer) => is_answered(record, &answer, reply)?,
                 None if record.is_of_nodes() && reply.is_done() => {}
-                None => return Err(format!("no answer to {record:?} is known")),
+                None => return Err(format!("no result of {record:?} is known")),
             }
         }
         Ok(())
@@ -198,7 +198,7 @@ fn is_answered(record: &Record, answer: &Answer, reply: &Reply) -> Told<()> {
     ))
 }
 
-/// A call that is swept, in a run in which nothing is refused: its reply, and the state behind it.
+/// A call that is swept, in a run without a failure: its reply, and the state behind it.
 struct Whole {
     reply: Reply,
     state: State,
@@ -213,7 +213,7 @@ struct Sweep<'a> {
     outcome: Outcome,
 }
 
-// Carries out a scenario of which nothing is refused.
+// Carries out a scenario without a failure.
 fn plain(program: &Program, scenario: &Scenario) -> Told<Vec<Option<Whole>>> {
     let mut trial = Trial::begin(program, scenario.kind)?;
     let mut wholes = Vec::new();
@@ -235,8 +235,8 @@ fn plain(program: &Program, scenario: &Scenario) -> Told<Vec<Option<Whole>>> {
     Ok(wholes)
 }
 
-/// Carries out a scenario: once with nothing refused, and once with each request of its swept calls
-/// refused in turn.
+/// Carries out a scenario: once without a failure, and once with each request of its swept calls
+/// failing in turn.
 pub fn carry_out(program: &Program, scenario: &Scenario) -> Outcome {
     let mut outcome = Outcome::default();
     let begun = plain(program, scenario).and_then(|wholes| {
@@ -300,7 +300,7 @@ impl Sweep<'_> {
         }
     }
 
-    // Makes a call again and again, with one more of its requests refused each time.
+    // Makes a call again and again, with a later one of its requests failing each time.
     fn step(&mut self, step: &Step, whole: &Whole) -> Told<()> {
         let before = self.trial.state()?;
         let shape = self.trial.shape()?;
@@ -341,8 +341,8 @@ impl Sweep<'_> {
         Err(format!("{:?} has no end", step.record))
     }
 
-    // Makes a call with a request refused. Answers its reply, and whether it came to that request.
-    // Where requests are not counted, it came to none.
+    // Makes a call with a failing request. Returns its reply, and whether it came to that request.
+    // If requests are not counted, it came to no request.
     fn refuse(&mut self, number: u64, record: &Record) -> Told<(Reply, bool)> {
         let process = &mut self.trial.process;
         if let Some(counts) = &process.counts {
@@ -357,7 +357,7 @@ impl Sweep<'_> {
         Ok((reply, is_refused))
     }
 
-    // The call was made with nothing refused: all is as in the run in which nothing was.
+    // The call was made without a failure: all is as in the run without a failure.
     fn complete(
         &mut self,
         step: &Step,
@@ -380,7 +380,7 @@ impl Sweep<'_> {
         Ok(())
     }
 
-    // A call that was made has the reply of one of which nothing was refused.
+    // A call that was made has the reply of one without a failure.
     fn is_replied(&mut self, step: &Step, whole: &Whole, reply: &Reply, asked: &Model) -> Told<()> {
         self.trial.model = asked.clone();
         if let Some(answer) = self.trial.model.answer(&step.record) {
@@ -389,7 +389,7 @@ impl Sweep<'_> {
         if *reply == whole.reply {
             Ok(())
         } else {
-            Err("the reply is not that of a call that was not refused".to_string())
+            Err("the reply is not that of a call that succeeds".to_string())
         }
     }
 
@@ -403,7 +403,7 @@ impl Sweep<'_> {
     fn is_whole(&mut self, step: &Step, whole: &Whole, reply: &Reply, asked: &Model) -> Told<()> {
         self.is_replied(step, whole, reply, asked)?;
         if self.trial.state()? != whole.state {
-            return Err("the state is not that behind a call that was not refused".to_string());
+            return Err("the state is not that after a call that succeeds".to_string());
         }
         Ok(())
     }
@@ -420,7 +420,7 @@ impl Sweep<'_> {
         }
     }
 
-    // Looks at a call that was refused.
+    // Looks at a call that failed.
     fn look(&mut self, step: &Step, whole: &Whole, reply: &Reply, before: &State) -> Told<()> {
         let record = step.record;
         if reply.status != 1 {

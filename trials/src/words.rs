@@ -34,7 +34,7 @@ impl Reply {
         self.len == words.len() as u64 && self.digest == digest_of(words)
     }
 
-    /// The word at a place, or 0.
+    /// The word at an index, or 0.
     pub fn word(&self, place: usize) -> u64 {
         self.words.get(place).copied().unwrap_or(0)
     }

@@ -1,4 +1,4 @@
-//! Answers the lines of standard input on standard output.
+//! Reads lines from standard input, and writes a reply to each to standard output.
 #![tactic(auto)]
 
 use bptree_script::error::exit_status;

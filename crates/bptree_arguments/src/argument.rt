@@ -17,13 +17,12 @@ pub trait Argument<K: Key>: Clone + Default + Drop {
     /// The value is a summary of the keys.
     ghost is_summary: { Self → List K → Type 0 };
 
-    /// No call of the argument takes memory, so that none is refused.
+    /// No call of the argument allocates, so that none is refused.
     ghost needs_no_memory: { Type 0 } = { ⊥ };
 
-    /// Whether no call of the argument takes memory. The default is `false`, which is always
-    /// allowed.
+    /// Whether no call of the argument allocates. The default is `false`, which is always allowed.
     ///
-    /// O(1). It takes no memory and cannot fail.
+    /// O(1). It allocates nothing and cannot fail.
     fn never_fails() -> bool
         ensures free { IsTrue result → needs_no_memory }
     {
@@ -31,19 +30,25 @@ pub trait Argument<K: Key>: Clone + Default + Drop {
     }
 
     /// Whether every value is a summary of every list, so that a tree need not keep summaries up.
+    ///
+    /// O(1). It allocates nothing and cannot fail.
     fn is_zst() -> bool
         ensures any { IsTrue result → (a : Self) (keys : List K) → is_summary a keys }
     {
         false
     }
 
-    /// A summary of the keys of a leaf, which ascend. It fails only where memory is refused.
+    /// A summary of the keys of a leaf, which ascend. It fails only if an allocation fails.
+    ///
+    /// O(k) for k keys, in the impls of this library.
     fn from_leaf(keys: &[K]) -> Result<Self, AllocError>
         ensures summary { IfOk result (SumsUpKeys is_summary K.cmp keys.now) }
         ensures sure { needs_no_memory → IsOk result };
 
     /// A summary of all keys below an inner node, of its separators and of one summary for each
-    /// child. A separator need not be a key. It fails only where memory is refused.
+    /// child. A separator need not be a key. It fails only if an allocation fails.
+    ///
+    /// O(c) for c children, in the impls of this library.
     fn from_inner(keys: &[K], arguments: &[Self]) -> Result<Self, AllocError>
         ensures summary { IfOk result (SumsUpPieces is_summary K.cmp arguments.now) }
         ensures sure { needs_no_memory → IsOk result };
@@ -51,6 +56,8 @@ pub trait Argument<K: Key>: Clone + Default + Drop {
     /// The summary of a node of which one child's summary changed: of the node's old one and of the
     /// child's old and new one, where they tell it without the other children's. By default they
     /// don't, and the node is asked anew by `from_inner`.
+    ///
+    /// O(1) in the impls of this library. It cannot fail.
     fn from_replaced(_node: &Self, _old: &Self, _new: &Self) -> Option<Self>
         ensures replaced { IfSome result (SumsUpReplaced is_summary K.cmp _node.now _old.now _new.now) }
     {
@@ -58,6 +65,8 @@ pub trait Argument<K: Key>: Clone + Default + Drop {
     }
 
     /// How many keys the summary stands for, where it tells that. By default it doesn't.
+    ///
+    /// O(1) in the impls of this library. It cannot fail.
     fn key_count(&self) -> Option<usize>
         ensures told { TellsLength (is_summary self.now) result }
     {
@@ -75,8 +84,10 @@ pub trait SearchArgument<K: Key>: Argument<K> {
     /// The place, or none, is allowed for the query on the keys.
     ghost selects: { Self.Query → List K → Option ℕ → Type 0 };
 
-    /// A place among the keys of a leaf, which ascend, or none. It fails only where memory is
-    /// refused.
+    /// A place among the keys of a leaf, which ascend, or none. It fails only if an allocation
+    /// fails.
+    ///
+    /// O(k) for k keys, in the impls of this library.
     fn locate_in_leaf(query: Self::Query, keys: &[K]) -> Result<Option<usize>, AllocError>
         requires { length keys.now ≤ 64 }
         ensures in_range { IfOk result (IfAscending K.cmp keys.now (IsPlaceIn keys.now)) }
@@ -85,7 +96,9 @@ pub trait SearchArgument<K: Key>: Argument<K> {
 
     /// The child of an inner node to go on in, with the query that is asked there; or none, where
     /// no place is allowed for the query. It is given the separators and one summary for each
-    /// child, and fails only where memory is refused.
+    /// child, and fails only if an allocation fails.
+    ///
+    /// O(c) for c children, in the impls of this library.
     fn locate_in_inner(
         query: Self::Query,
         keys: &[K],
@@ -107,17 +120,23 @@ pub trait RankArgument<K: Key>: Argument<K> {
     ghost ranks: { K → List K → Self.Rank → Type 0 };
 
     /// The rank before any key was seen.
+    ///
+    /// O(1). It allocates nothing and cannot fail.
     fn initial_value() -> Self::Rank
         ensures stands { (k : K) → stands_for result k [] };
 
     /// The rank carried on over the children of an inner node before the one for the key; there may
-    /// be none. It is given one summary for each of them, and fails only where memory is refused.
+    /// be none. It is given one summary for each of them, and fails only if an allocation fails.
+    ///
+    /// O(c) for c children, in the impls of this library.
     fn fold_inner(k: &K, rank: Self::Rank, arguments: &[Self]) -> Result<Self::Rank, AllocError>
         ensures carries { IfOk result (Carries Self.is_summary K.cmp arguments.now stands_for rank k.now) }
         ensures sure { Self.needs_no_memory → IsOk result };
 
     /// The rank of a key by a slot of its leaf, `Ok` exactly where the slot is. A rank for the key
-    /// comes of the slot that is its place there. It fails only where memory is refused.
+    /// comes of the slot that is its place there. It fails only if an allocation fails.
+    ///
+    /// O(k) for k keys, in the impls of this library.
     fn fold_leaf(
         k: &K,
         rank: Self::Rank,

@@ -20,6 +20,8 @@ pub struct Count(usize);
 
 impl Count {
     /// The number of keys, in constant time.
+    ///
+    /// O(1). It allocates nothing and cannot fail.
     pub fn count(&self) -> usize
         ensures { result ≡ self.now.0 }
     {

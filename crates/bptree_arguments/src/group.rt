@@ -21,6 +21,9 @@ pub trait FromRef<T: Ord>: Ord {
     /// The group of a key, up to equality.
     ghost group_of: { T → Self };
 
+    /// The group of a key.
+    ///
+    /// O(1) and one clone, for `Tuple2`. It fails only if an allocation fails.
     fn from_ref(input: &T) -> Result<Self, AllocError>
         ensures { IfOk result (λ group. Self.cmp group (group_of input.now) ≡ Ordering.Equal) };
 
@@ -98,6 +101,8 @@ impl<G: Key> Clone for GroupCount<G> {
 
 impl<G: Key> GroupCount<G> {
     /// The greatest group, with its size, in constant time.
+    ///
+    /// O(1). It allocates nothing and cannot fail.
     pub fn max_group(&self) -> Option<(&G, usize)>
         ensures greatest { TellsGreatest G.cmp self.now (option_map (λ r. (r.0.now, r.1)) result) }
         ensures exact { option_map (λ r. (r.0.now, r.1)) result ≡ greatest_of self.now }
@@ -110,6 +115,8 @@ impl<G: Key> GroupCount<G> {
     }
 
     /// Whether there is no group, in constant time.
+    ///
+    /// O(1). It allocates nothing and cannot fail.
     pub fn is_zero(&self) -> bool
         ensures none { TellsIfNone G.cmp self.now result }
         ensures exact { result ≡ has_no_group self.now }
@@ -121,6 +128,8 @@ impl<G: Key> GroupCount<G> {
     }
 
     /// The number of different groups, in constant time.
+    ///
+    /// O(1). It allocates nothing and cannot fail.
     pub fn group_count(&self) -> usize
         ensures different { TellsDifferent G.cmp self.now result }
         ensures exact { result ≡ number_of_groups self.now }
@@ -168,7 +177,7 @@ impl<G: Key> GroupCount<G> {
         }
     }
 
-    /// The least and the greatest group, where there is one.
+    /// The least and the greatest group, if there is one.
     pub(crate) fn ends(&self) -> Option<Ends<'_, G>>
         ensures ends { TellsEnds G.cmp self.now result }
         ensures told { option_map (λ ends. told_by_ends ends) result ≡ told_by self.now }
@@ -313,7 +322,7 @@ impl<K: Key, G: FromRef<K> + Key> Argument<K> for GroupCount<G> {
         }
     }
 
-    /// The size of the only group, or 0 where there is none, in constant time. Of several groups it
+    /// The size of the only group, or 0 if there is none, in constant time. Of several groups it
     /// tells nothing, since those between the least and the greatest have no sizes here.
     fn key_count(&self) -> Option<usize> {
         match self {

@@ -12,8 +12,7 @@ use std::alloc::AllocError;
 use std::cmp::Ordering;
 use std::marker::{Model, PhantomData};
 
-/// Counts the keys of one group. It answers 0 where there is none, and stops at the greatest
-/// `usize`.
+/// Counts the keys of one group. It returns 0 if there is none, and stops at the greatest `usize`.
 #[derive(Drop)]
 pub struct ExtractGroupSize<G, K> {
     group: G,
@@ -31,6 +30,8 @@ impl<G, K> Model for ExtractGroupSize<G, K> {
 
 impl<G, K> ExtractGroupSize<G, K> {
     /// A visitor that has counted no key yet.
+    ///
+    /// O(1). It allocates nothing and cannot fail.
     pub fn new(group: G) -> Self
         ensures group { result.group ≡ group }
         ensures counted { result.counted ≡ 0 }

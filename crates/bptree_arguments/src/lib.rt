@@ -1,5 +1,4 @@
-//! What an inner node keeps of each child beside its number: summaries of the child's keys; and
-//! visitors that read them.
+//! Summaries of the keys below each child of an inner node, and the visitors that read them.
 #![tactic(auto)]
 
 pub mod argument;

@@ -34,8 +34,10 @@ pub trait DescendVisit<K: Key, V, A: Argument<K>>: Drop {
     /// The answer is allowed for the visitor on the pairs.
     ghost answers: { Self → List (K × V) → VisitAnswer Self.Result → Type 0 };
 
-    /// Sees an inner node: its separators, and one summary for each child. It fails only where
-    /// memory is refused.
+    /// Sees an inner node: its separators, and one summary for each child. It fails only if an
+    /// allocation fails.
+    ///
+    /// O(c) for c children, in `ExtractGroupSize`.
     fn visit_inner(
         &mut self,
         keys: &[K],
@@ -43,8 +45,10 @@ pub trait DescendVisit<K: Key, V, A: Argument<K>>: Drop {
     ) -> Result<DescendVisitResult<Self::Result>, AllocError>
         ensures step { IfOk result (StepsOver K.cmp answers A.is_summary keys.now arguments.now self.old self.new) };
 
-    /// Sees the pairs of a leaf, whose keys ascend, and answers. It fails only where memory is
-    /// refused.
+    /// Sees the pairs of a leaf, whose keys ascend, and returns. It fails only if an allocation
+    /// fails.
+    ///
+    /// O(log k) for k keys, in `ExtractGroupSize`.
     fn visit_leaf(&mut self, keys: &[K], values: &[V]) -> Result<Option<Self::Result>, AllocError>
         requires few { length keys.now ≤ 64 }
         requires paired { length keys.now ≡ length values.now }

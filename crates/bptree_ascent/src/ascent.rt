@@ -22,7 +22,7 @@ use bptree_nodes::inner_node::InnerNode;
 use bptree_stores::node_stores::NodeStore;
 use std::alloc::AllocError;
 
-// Puts a child's summary into its node, and answers the one that it had there. So a second call
+// Puts a child's summary into its node, and returns the one that it had there. So a second call
 // undoes the first.
 fn set_at<S: NodeStore>(
     store: &mut S,
@@ -147,7 +147,7 @@ fn unlink_at<S: NodeStore>(
 }
 
 // Puts the node to the right of a child that was split into its node, which is full and is split in
-// turn. It answers what the node above has to take, and the child's old summary.
+// turn. It returns what the node above has to take, and the child's old summary.
 fn split_inner_at<S: NodeStore>(
     store: &mut S,
     id: InnerNodeId,
@@ -300,7 +300,7 @@ pub fn ascend_split<S: NodeStore>(
 
 /// Sets the link of the leaf `next`, if there is one, to `left`, which is now the leaf before it.
 ///
-/// O(1). It takes no memory and cannot fail.
+/// O(1). It allocates nothing and cannot fail.
 pub fn relink_next<S: NodeStore>(store: &mut S, left: LeafNodeId, next: Option<LeafNodeId>)
     requires next { IfSome next (λ next. IsPresent ((S.slots store.old).leaf next.0)) }
     ensures { RelinksNext (S.slots store.old) (S.slots store.new) next left }

@@ -1,5 +1,4 @@
-//! An edit of a leaf carried up a path of a tree that stands in a store, with what undoes each
-//! step.
+//! A change of a leaf that is propagated up its path, and what undoes each step.
 #![tactic(auto)]
 
 pub mod ascent;

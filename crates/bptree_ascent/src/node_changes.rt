@@ -38,8 +38,8 @@ pub struct SplitNode<K, A, N> {
     pub old: A,
 }
 
-/// Puts a child's new summary in its place. It answers the node's summary and the child's old one;
-/// refused, it hands the new one back and leaves the node as it was.
+/// Puts a child's new summary in its place. It returns the node's summary and the child's old one;
+/// refused, it returns the new one and leaves the node as it was.
 pub fn resum<K: Key, A: Argument<K>>(
     node: &mut InnerNode<K, A>,
     place: usize,
@@ -60,7 +60,7 @@ pub fn resum<K: Key, A: Argument<K>>(
     }
 }
 
-/// Takes the node to the right of a child that was split, where there is room. It answers the
+/// Takes the node to the right of a child that was split, where there is room. It returns the
 /// node's summary and the child's old one; refused, it hands all back and leaves the node as it
 /// was.
 pub fn take_entry<K: Key, A: Argument<K>>(
@@ -100,7 +100,7 @@ pub fn give_entry<K: Key, A: Argument<K>>(
     give_back(node, place, old, entry)
 }
 
-// Puts a child's old summary back. It answers the division that the node had taken: the summary
+// Puts a child's old summary back. It returns the division that the node had taken: the summary
 // that was in its place, and the entry that the node gave up.
 pub(crate) fn give_back<K: Key, A: Argument<K>>(
     node: &mut InnerNode<K, A>,

@@ -1,5 +1,5 @@
-//! Look-ups of many keys at once, in the nodes of a store. The keys of a group go down the tree side
-//! by side, so that the processor waits for the nodes of all of them at once.
+//! Look-ups of many keys at once: 16 keys descend side by side, so that the processor waits for all
+//! their nodes at once.
 #![tactic(auto)]
 
 mod copies;

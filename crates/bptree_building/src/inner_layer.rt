@@ -13,7 +13,7 @@ use bptree_stores::node_stores::NodeStore;
 use std::alloc::AllocError;
 use std::vec::IntoIter;
 
-// Puts the first `count` of the trees below an empty node, and answers the key that the first of
+// Puts the first `count` of the trees below an empty node, and returns the key that the first of
 // them starts at.
 fn take_trees<K: Key, A: Argument<K>>(
     node: &mut InnerNode<K, A>,

@@ -28,7 +28,7 @@ pub fn leaf_ids<S: NodeStore>(tree: &Nodes<S>) -> Result<Vec<LeafNodeId>, AllocE
 
 /// Takes leaves out of a store, in this order, and puts them behind others. Their numbers stay held.
 ///
-/// O(1) for a leaf. It takes no memory and cannot fail.
+/// O(1) for a leaf. It allocates nothing and cannot fail.
 pub fn take_leaves<S: NodeStore>(
     store: &mut S,
     ids: &[LeafNodeId],

@@ -1,4 +1,4 @@
-//! A tree that is built of ascending pairs, layer by layer, in one pass.
+//! A tree built from ascending pairs, layer by layer, in one pass.
 #![tactic(auto)]
 
 pub mod building;

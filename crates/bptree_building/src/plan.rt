@@ -24,7 +24,7 @@ pub struct Plan<S: NodeStore> {
     pub trees: Vec<Subtree<S::K, S::Argument>>,
 }
 
-/// A plan of no leaf, in an empty store. It takes no memory.
+/// A plan of no leaf, in an empty store. It allocates nothing.
 pub fn empty_plan<S: NodeStore>(store: S) -> Plan<S>
     requires { IsEmpty (S.slots store) }
     ensures { Plans S.K.cmp S.Argument.is_summary S.slots result [] }

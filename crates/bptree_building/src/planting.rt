@@ -73,8 +73,8 @@ fn plant_leaves<S: NodeStore>(
 
 /// The tree of a frame once its leaves stand there: one for each number, in the order of their keys.
 ///
-/// O(1) for a leaf: no pair is moved. It takes no memory and cannot fail. `len` is the number of all
-/// pairs.
+/// O(1) for a leaf: no pair is moved. It allocates nothing and cannot fail. `len` is the number of
+/// all pairs.
 pub fn plant<S: NodeStore>(
     frame: Frame<S>,
     leaves: Vec<Box<LeafNode<S::K, S::V>>>,

@@ -103,7 +103,7 @@ pub(crate) fn leaf_behind<S: NodeStore>(store: &S, ids: &[LeafNodeId], i: usize)
 
 /// The cut before the pair at a position.
 ///
-/// O(n / 32) for n pairs. It takes no memory and cannot fail.
+/// O(n / 32) for n pairs. It allocates nothing and cannot fail.
 pub(crate) fn cut_before<S: NodeStore>(tree: &Nodes<S>, ids: &[LeafNodeId], at: Position) -> Cut
     requires ids { ids.now ≡ leaves_at (S.slots tree.now.store) tree.now.height tree.now.root }
     requires place { HasPlace S.slots tree.now at }

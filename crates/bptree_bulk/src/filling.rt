@@ -91,7 +91,7 @@ pub(crate) fn fill_all<K: Key, V: Drop>(
 
 /// The tree of the pairs that moved, the least of which moved first.
 ///
-/// O(1) a pair. It takes no memory and cannot fail.
+/// O(1) a pair. It allocates nothing and cannot fail.
 pub fn plant_filling<S: NodeStore>(filling: Filling<S>) -> Nodes<S>
     requires { IsFilling S.K.cmp S.Argument.is_summary S.slots filling filling.pairs.items }
     ensures contents { result.contents ≡ filling.pairs.items }

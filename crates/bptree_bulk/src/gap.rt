@@ -42,7 +42,7 @@ fn count_pairs<S: NodeStore>(store: &S, ids: &[LeafNodeId]) -> usize
 
 /// The gap that is left when the pairs from one position up to another go.
 ///
-/// O(n / 32) for n pairs. It takes no memory and cannot fail.
+/// O(n / 32) for n pairs. It allocates nothing and cannot fail.
 pub(crate) fn gap_between<S: NodeStore>(
     tree: &Nodes<S>,
     ids: &[LeafNodeId],

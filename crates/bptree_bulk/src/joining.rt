@@ -55,7 +55,7 @@ pub fn plan_join<S: NodeStore>(first: &Nodes<S>, second: &Nodes<S>) -> Result<Jo
 
 /// The tree of the pairs of both.
 ///
-/// O(n / 32) for n pairs: no pair moves to another leaf. It takes no memory and cannot fail.
+/// O(n / 32) for n pairs: no pair moves to another leaf. It allocates nothing and cannot fail.
 pub fn join<S: NodeStore>(first: Nodes<S>, second: Nodes<S>, joint: Joint<S>) -> Nodes<S>
     requires joint { IsJoint S.K.cmp S.Argument.is_summary S.slots first second joint }
     requires below { IsAscending S.K.cmp (first.contents ++ second.contents) }

@@ -1,4 +1,4 @@
-//! Calls that move many pairs at once: whole leaves move, and nothing changes before all memory is found.
+//! Calls that move many pairs at once: all memory is allocated first, and then whole leaves move.
 #![tactic(auto)]
 
 mod around;

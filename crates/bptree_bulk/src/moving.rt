@@ -1,4 +1,5 @@
-//! Leaves and pairs that move from one list to another. These functions take no memory and cannot fail.
+//! Leaves and pairs that move from one list to another. These functions allocate nothing and cannot
+//! fail.
 ghost use Rattle.std.specs.Prelude.{◌≡◌, ◌+◌, ◌<◌, ◌≤◌, ◌^◌, ◌++◌, ◌∷◌, [], length, take, drop, vec_capacity, vec_len};
 ghost use Rattle.std.specs.Vec.Iter.{into_iter_items, into_iter_len};
 ghost use Rattle.bptree_building.specs.Rooms.{joined, parts_of};

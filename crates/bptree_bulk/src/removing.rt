@@ -107,7 +107,7 @@ fn deal_around<S: NodeStore>(tree: Nodes<S>, removal: Removal<S>) -> Ready<S>
 /// The tree without the pairs that go.
 ///
 /// O(n / 32 + k) for n pairs of which k go: only the pairs of a few leaves at the gap move to other
-/// leaves. It takes no memory and cannot fail.
+/// leaves. It allocates nothing and cannot fail.
 pub fn cut_out<S: NodeStore>(tree: Nodes<S>, removal: Removal<S>) -> Nodes<S>
     requires { IsRemovalSomewhere S.K.cmp S.Argument.is_summary S.slots tree removal }
     ensures contents { AreKept S.K.cmp S.Argument.is_summary S.slots tree removal result.contents }

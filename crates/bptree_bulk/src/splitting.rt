@@ -150,7 +150,7 @@ pub(crate) fn stand<S: NodeStore>(ready: Ready<S>) -> Nodes<S>
 
 /// Cuts a tree in two.
 ///
-/// O(n / 32) for n pairs: only the pairs of three leaves move to other leaves. It takes no memory
+/// O(n / 32) for n pairs: only the pairs of three leaves move to other leaves. It allocates nothing
 /// and cannot fail.
 pub fn cut_in_two<S: NodeStore>(tree: Nodes<S>, split: Split<S>) -> (Nodes<S>, Nodes<S>)
     requires { IsSplitSomewhere S.K.cmp S.Argument.is_summary S.slots tree split }
@@ -179,7 +179,7 @@ pub enum Cutting<S: NodeStore> {
 
 /// Whether a position is before all pairs.
 ///
-/// O(log n). It takes no memory and cannot fail.
+/// O(log n). It allocates nothing and cannot fail.
 pub fn is_start<S: NodeStore>(tree: &Nodes<S>, at: Position) -> bool
     requires { HasPlace S.slots tree.now at }
     ensures { IsTrue result ↔ StartsAt S.slots tree.now at }
@@ -193,7 +193,7 @@ pub fn is_start<S: NodeStore>(tree: &Nodes<S>, at: Position) -> bool
 
 /// Whether a position is behind all pairs.
 ///
-/// O(1). It takes no memory and cannot fail.
+/// O(1). It allocates nothing and cannot fail.
 pub fn is_end<S: NodeStore>(tree: &Nodes<S>, at: Position) -> bool
     requires { IsAtPair S.slots tree.now at }
     ensures { IsTrue result ↔ (place_of S.slots tree.now at ≡ length tree.now.contents) }
@@ -204,8 +204,8 @@ pub fn is_end<S: NodeStore>(tree: &Nodes<S>, at: Position) -> bool
 
 /// Finds all that is needed to cut a tree in two before the first pair whose key is not below `k`.
 ///
-/// It searches for that key in O(log n) comparisons, and costs and fails as `plan_split` does. Where
-/// all pairs stay or all move, it takes no memory and cannot fail.
+/// It searches for that key in O(log n) comparisons, and costs and fails as `plan_split` does.
+/// Where all pairs stay or all move, it allocates nothing and cannot fail.
 pub fn plan_at_key<S: NodeStore>(tree: &Nodes<S>, k: &S::K) -> Result<Cutting<S>, AllocError>
     ensures { IfOk result (IsCutting S.K.cmp S.Argument.is_summary S.K.is_infallible S.Argument.needs_no_memory S.slots tree.now k.now) }
 {

@@ -103,7 +103,7 @@ fn plan_between<S: NodeStore>(
 /// The number of pairs from a position on, if they are so few that they move one by one: below a
 /// thirty-second of all, where no removal can fail.
 ///
-/// O(n / 1024) for n pairs. It takes no memory and cannot fail.
+/// O(n / 1024) for n pairs. It allocates nothing and cannot fail.
 pub(crate) fn few_from<S: NodeStore>(tree: &Nodes<S>, at: Position) -> Option<usize>
     requires { IsAtPair S.slots tree.now at }
     ensures count { IfSome result (IsRest S.slots tree.now at) }
@@ -124,7 +124,7 @@ pub(crate) fn few_from<S: NodeStore>(tree: &Nodes<S>, at: Position) -> Option<us
 /// Whether so few pairs are from a position up to a key that they are removed one by one: at most a
 /// thirty-second of all, where no removal can fail. If no key is given, up to the end.
 ///
-/// O(n / 1024) for n pairs. It takes no memory and cannot fail.
+/// O(n / 1024) for n pairs. It allocates nothing and cannot fail.
 pub fn removes_few<S: NodeStore>(tree: &Nodes<S>, from: Position, hi: Option<&S::K>) -> bool
     requires { IsAtPair S.slots tree.now from }
     ensures { IsTrue result → S.Argument.needs_no_memory × AllInfallible S.K.is_infallible }
@@ -190,7 +190,7 @@ pub fn plan_all<S: NodeStore>(tree: &Nodes<S>) -> Result<Filling<S>, AllocError>
 
 /// The tree of the pairs that moved, the greatest of which moved first.
 ///
-/// O(1) a pair. It takes no memory and cannot fail.
+/// O(1) a pair. It allocates nothing and cannot fail.
 pub fn plant_tail<S: NodeStore>(tail: Filling<S>) -> Nodes<S>
     requires { IsFilling S.K.cmp S.Argument.is_summary S.slots tail (reverse tail.pairs.items) }
     ensures contents { result.contents ≡ reverse tail.pairs.items }

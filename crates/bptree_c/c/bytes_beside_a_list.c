@@ -5,7 +5,7 @@
 #include <stdlib.h>
 #include <string.h>
 
-enum { MOST = 3000, LONGEST = 6, ROOM = 8, CALLS = 150000 };
+enum { MOST = 3000, LONGEST = 13, ROOM = 15, CALLS = 150000 };
 
 typedef struct string { size_t n; uint8_t bytes[LONGEST]; } string;
 
@@ -30,11 +30,13 @@ static void alike(uint64_t one, uint64_t other, const char *call) {
 }
 
 /* A string of few bytes, among them the least and the greatest, so that many are equal or begin one
-   another. */
+   another. Half of them begin with the same seven bytes, so that bytes behind the eighth decide. */
 static string any_string(void) {
     static const uint8_t some[] = {0, 1, 'a', 'b', 0x7f, 0x80, 0xff};
-    string it = {roll(LONGEST + 1), {0}};
-    for (size_t i = 0; i < it.n; i++) it.bytes[i] = some[roll(sizeof some)];
+    size_t front = roll(2) ? 7 : 0;
+    string it = {front + roll(7), {0}};
+    memset(it.bytes, 'k', front);
+    for (size_t i = front; i < it.n; i++) it.bytes[i] = some[roll(sizeof some)];
     return it;
 }
 

@@ -64,9 +64,12 @@ static void put_at(size_t i, bool there, const struct key *k, uint64_t value) {
     values[i] = value;
 }
 
+/* A third of the keys begin with the same seven bytes. */
 static struct key any_key(void) {
-    struct key k = {draw(20) < 1 ? draw(WHOLE) : draw(4), {0}};
-    for (size_t i = 0; i < k.n; i++) k.at[i] = (uint8_t)("\0\1ab\xff"[draw(5)]);
+    size_t front = draw(3) < 1 ? 7 : 0;
+    struct key k = {draw(20) < 1 ? front + draw(WHOLE - 7) : front + draw(4), {0}};
+    memset(k.at, 'k', front);
+    for (size_t i = front; i < k.n; i++) k.at[i] = (uint8_t)("\0\1ab\xff"[draw(5)]);
     return k;
 }
 

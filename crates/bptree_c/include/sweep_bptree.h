@@ -3,7 +3,7 @@
    also finds the index of a key and the key at an index.
 
    Keys and values may be handles, pointers or numbers of the caller's own. n is the number of pairs
-   below. docs/FACES.md shows how to build and link, and what is proved. */
+   below. docs/guide/c.md shows how to build and link, and what is proved. */
 #ifndef SWEEP_BPTREE_H
 #define SWEEP_BPTREE_H
 
@@ -11,9 +11,16 @@
 #include <stddef.h>
 #include <stdint.h>
 
+#define SWEEP_BPTREE_VERSION "0.6.0"
+#define SWEEP_BPTREE_VERSION_NUMBER 6000
+
 #ifdef __cplusplus
 extern "C" {
 #endif
+
+/* SWEEP_BPTREE_VERSION_NUMBER of the library that the program is linked with: major * 1000000 +
+   minor * 1000 + patch. O(1). It cannot fail. */
+uint32_t bptree_version(void);
 
 /* A map from numbers to numbers, or none. Its caller keeps three things:
    1. it begins with `bptree map = {0};`, then bptree_new or bptree_clone, and no bptree that holds
@@ -43,11 +50,13 @@ typedef enum bptree_result {
 
 /* How a map is made, copied, freed, emptied, and filled at once. False: an allocation failed, and
    nothing has changed. */
+/* Makes a map with no pairs. O(1). */
 bool bptree_new(bptree *map);
 /* Makes `to`, which holds no map, a copy of a map. O(n). */
 bool bptree_clone(const bptree *map, bptree *to);
+/* Frees a map. O(n). It never fails. */
 void bptree_free(bptree *map);
-/* It allocates one node. O(n). */
+/* Removes all pairs. It allocates one node. O(n). */
 bool bptree_clear(bptree *map);
 /* The n given pairs, in any order, replace what the map holds: of equal keys the last one stays.
    O(n log n), and O(n) if the pairs are sorted. */
@@ -81,13 +90,14 @@ bptree_result bptree_put(bptree *map, uint64_t key, uint64_t value, uint64_t *ol
    fails. */
 bptree_result bptree_del(bptree *map, uint64_t key, uint64_t *old);
 /* The pair at an index, the first and the last pair: BPTREE_REMOVED with the pair in *pair, or
-   BPTREE_ABSENT. */
+   BPTREE_ABSENT. The calls need no memory and never fail. */
 bptree_result bptree_remove_at(bptree *map, size_t index, bptree_pair *pair);
 bptree_result bptree_pop_first(bptree *map, bptree_pair *pair);
 bptree_result bptree_pop_last(bptree *map, bptree_pair *pair);
 
 /* Calls that copy pairs into an array of n, until it is full or there are no more, and return how
-   many. The rest of the array is unchanged. None of them fails. */
+   many. The rest of the array is unchanged. None of them fails. They take O(log m + n) in a map of m
+   pairs. */
 /* From the least key that is at least `from`, upward. */
 size_t bptree_range(const bptree *map, uint64_t from, bptree_pair *out, size_t n);
 /* From the greatest key that is at most `from`, downward. */
@@ -99,8 +109,9 @@ size_t bptree_page(const bptree *map, size_t number, bptree_pair *out, size_t n)
 size_t bptree_copy(const bptree *map, size_t index, uint64_t *keys, size_t n, uint64_t *values, size_t n_values);
 
 /* Calls for n keys or indexes at once. Each of their arrays has n members, and every count of such a
-   call is n. O(n log m) in a map of m pairs; groups of 16 go down the tree side by side, so that a
-   large map takes about half the time of single calls. */
+   call is n. O(n log m) in a map of m pairs. The calls that only read search the tree for 16 keys
+   side by side, so that in a large map they take about half the time of single calls.
+   bptree_put_many alone can fail. */
 /* The value at each key that is there, and a 1 in `found`; for the others `values` is unchanged,
    and `found` has a 0. */
 void bptree_get_many(const bptree *map, const uint64_t *keys, size_t n, uint64_t *values, size_t n_values, uint8_t *found, size_t n_found);
@@ -123,15 +134,27 @@ void bptree_del_many(bptree *map, const uint64_t *keys, size_t n, uint8_t *found
    map of numbers, and its calls cost what those do, with comparisons of keys in place of numbers.
    Keys are copied in, may be empty and may hold any bytes. The first byte that differs decides their
    order; if one of two keys is a prefix of the other, the shorter one is less. A call that looks up
-   a key compares its n bytes where they are: it allocates nothing and never fails. */
+   a key compares its n bytes where they are: it allocates nothing and never fails. Beside each key
+   the map stores its first eight bytes as a number, and compares the bytes themselves only where
+   two such numbers are equal. */
 typedef struct bptree_dict { void *at; } bptree_dict;
 
 typedef struct bptree_record { size_t length; uint64_t value; } bptree_record;
 
+/* Calls of a map from byte strings. They take O(log n) comparisons and steps at most, but
+   bptree_dict_new and bptree_dict_len take O(1), bptree_dict_clone, bptree_dict_free and
+   bptree_dict_clear take O(n), and bptree_dict_load takes O(n log n). A call that copies pairs also
+   takes O(1) a pair, and the time to copy its bytes. Calls that read never fail. */
+/* Makes a map with no pairs. False: an allocation failed, and nothing has changed. */
 bool bptree_dict_new(bptree_dict *dict);
+/* Makes `to`, which holds no map, a copy of a map. False: an allocation failed, and nothing has
+   changed. */
 bool bptree_dict_clone(const bptree_dict *dict, bptree_dict *to);
+/* Frees a map. It never fails. */
 void bptree_dict_free(bptree_dict *dict);
+/* Removes all pairs. False: an allocation failed, and nothing has changed. */
 bool bptree_dict_clear(bptree_dict *dict);
+/* The number of pairs. */
 size_t bptree_dict_len(const bptree_dict *dict);
 /* False: the key is absent, and *value is unchanged; bptree_dict_rank always writes how many keys
    are smaller. */
@@ -183,6 +206,9 @@ bptree_result bptree_dict_pop_last(bptree_dict *dict, uint8_t *out, size_t room,
    map's call of that name, and costs and fails as that does. */
 typedef struct bptree_bytes { bptree_dict keys; } bptree_bytes;
 
+/* Each of these calls is the call of bptree_dict of its name, with 0 as the value. It fails as that
+   call fails, and takes what that call takes: O(log n) comparisons; O(1) for bptree_bytes_new and
+   bptree_bytes_len; O(n) for bptree_bytes_clone, bptree_bytes_free and bptree_bytes_clear. */
 static inline bool bptree_bytes_new(bptree_bytes *set) { return bptree_dict_new(&set->keys); }
 static inline bool bptree_bytes_clone(const bptree_bytes *set, bptree_bytes *to) { return bptree_dict_clone(&set->keys, &to->keys); }
 static inline void bptree_bytes_free(bptree_bytes *set) { bptree_dict_free(&set->keys); }

@@ -5,6 +5,7 @@ use Rattle.std.specs.Map.{values_of}
 use Rattle.bptree_keys.specs.Contents.{value, put, del}
 use Rattle.bptree_c.specs.ByteKeys.{by_bytes}
 
+-- pairs of a byte string and a number
 abbrev pub Pairs : Type 0
 Pairs = List (List ℕ × ℕ)
 

@@ -5,6 +5,7 @@ use Rattle.bptree_c.specs.Dict.{Pairs}
 use Rattle.bptree_c.specs.declared.record.Record.{Record}
 use Rattle.bptree_keys.specs.Pieces.{flatten}
 
+-- a pair as C has it: the length of its key, and its value
 abbrev pub as_record : List ℕ × ℕ → Record
 as_record pair = record { length = length pair.0; value = pair.1 }
 

@@ -4,9 +4,11 @@ use Rattle.std.specs.Ordering.{nat_cmp}
 use Rattle.bptree_c.specs.declared.pair.Pair.{Pair}
 use Rattle.bptree_keys.specs.Contents.{gather}
 
+-- a pair of C, as the map has it
 abbrev pub as_tuple : Pair → ℕ × ℕ
 as_tuple pair = (pair.key, pair.value)
 
+-- a pair of the map, as C has it
 abbrev pub as_pair : ℕ × ℕ → Pair
 as_pair pair = record { key = pair.0; value = pair.1 }
 

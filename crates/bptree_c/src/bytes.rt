@@ -5,7 +5,9 @@ ghost use Rattle.std.specs.Cmp.{partial_equiv_from_equiv};
 ghost use Rattle.std.specs.Ordering.{nat_cmp};
 ghost use Rattle.std.proofs.Common.{refl};
 ghost use Rattle.bptree_keys.specs.Keys.{equal_if_same};
+ghost use Rattle.bptree_heads.specs.Heads.{IsHeadOf};
 
+use bptree_heads::head::{compare, head_of};
 use bptree_keys::key::Key;
 use bptree_probes::probe::Probe;
 use std::alloc::{AllocError, Global};
@@ -15,6 +17,7 @@ use std::marker::Model;
 /// A string of bytes, which may be empty. The order is lexicographic.
 #[derive(Drop)]
 pub(crate) struct Bytes {
+    head: u64,
     own: Vec<u8>,
 }
 
@@ -24,6 +27,10 @@ impl Model for Bytes {
     ghost Value = { List ℕ };
 
     ghost view = { λ bytes. bytes.own.items };
+
+    ghost use Rattle.bptree_heads.specs.Heads.{IsHeadOf};
+
+    ghost invariant = { λ bytes. IsHeadOf bytes.own.items bytes.head };
 }
 
 impl Bytes {
@@ -32,6 +39,7 @@ impl Bytes {
         ensures { IfOk result (λ bytes. bytes ≡ given.now) }
     {
         Ok(Bytes {
+            head: head_of(given),
             own: Vec::from_slice(alloc, given)?,
         })
     }
@@ -86,7 +94,12 @@ impl Ord for Bytes {
     ghost matches_eq = { texts_ties };
 
     fn cmp(&self, other: &Bytes) -> Ordering {
-        self.as_slice().cmp(other.as_slice())
+        compare(
+            self.head,
+            self.own.as_slice(),
+            other.head,
+            other.own.as_slice(),
+        )
     }
 }
 
@@ -95,15 +108,40 @@ impl Key for Bytes {
 }
 
 /// A caller's bytes, which represent the key of the same bytes during a call.
-#[derive(Clone, Copy)]
+#[derive(Drop)]
 pub(crate) struct View<'a> {
-    pub(crate) bytes: &'a [u8],
+    head: u64,
+    bytes: &'a [u8],
+}
+
+impl<'a> Model for View<'a> {
+    ghost use Rattle.std.specs.Prelude.{List, ℕ};
+
+    ghost Value = { List ℕ };
+
+    ghost view = { λ view. view.bytes.now };
+
+    ghost use Rattle.bptree_heads.specs.Heads.{IsHeadOf};
+
+    ghost invariant = { λ view. IsHeadOf view.bytes.now view.head };
+}
+
+impl<'a> View<'a> {
+    /// A view of the given bytes.
+    pub(crate) fn of(bytes: &'a [u8]) -> Self
+        ensures { result ≡ bytes.now }
+    {
+        View {
+            head: head_of(bytes),
+            bytes,
+        }
+    }
 }
 
 impl<'a> Probe<Bytes> for View<'a> {
-    ghost meant = { λ view. view.bytes.now };
+    ghost meant = { λ view. view };
 
     fn order_of(&self, key: &Bytes) -> Ordering {
-        key.as_slice().cmp(self.bytes)
+        compare(key.head, key.own.as_slice(), self.head, self.bytes)
     }
 }

@@ -113,7 +113,7 @@ pub extern "C" fn bptree_dict_contains(dict: &mut DictHandle, key: &[u8]) -> boo
     ensures kept { dict.new.held ≡ Some pairs }
     ensures there { result ≡ has by_bytes pairs key.now }
 {
-    has_by(&dict.peek().pairs, &View { bytes: key })
+    has_by(&dict.peek().pairs, &View::of(key))
 }
 
 /// The value at a key, in `found`. It is false if the key is absent; then `found` is unchanged.
@@ -139,7 +139,7 @@ pub extern "C" fn bptree_dict_get(dict: &mut DictHandle, key: &[u8], found: &mut
 fn value_in(dict: &Dict, key: &[u8]) -> Option<u64>
     ensures { result ≡ value by_bytes dict.now key.now }
 {
-    get_by(&dict.pairs, &View { bytes: key }).copied()
+    get_by(&dict.pairs, &View::of(key)).copied()
 }
 
 /// The number of smaller keys, in `rank`, and whether the key itself is there. O(log n).
@@ -160,7 +160,7 @@ fn rank_in(dict: &Dict, key: &[u8]) -> (bool, usize)
     ensures there { result.0 ≡ has by_bytes dict.now key.now }
     ensures rank { result.1 ≡ count_below by_bytes key.now (keys_of dict.now) }
 {
-    match rank_by(&dict.pairs, &View { bytes: key }) {
+    match rank_by(&dict.pairs, &View::of(key)) {
         Ok(rank) => (true, rank),
         Err(rank) => (false, rank),
     }
@@ -218,7 +218,7 @@ fn replace_in(dict: &mut Dict, key: &[u8], new: u64) -> Result<Option<u64>, Allo
     ensures present { IsTrue (has by_bytes dict.old key.now) → IsOk result }
     ensures err { OnErr result (dict.new ≡ dict.old) }
 {
-    match replace_by(&mut dict.pairs, &View { bytes: key }, new) {
+    match replace_by(&mut dict.pairs, &View::of(key), new) {
         Ok(was) => Ok(Some(was)),
         Err(_) => Err(AllocError),
     }
@@ -246,7 +246,7 @@ fn del_in(dict: &mut Dict, key: &[u8]) -> Result<Option<u64>, AllocError>
     ensures absent { has by_bytes dict.old key.now ≡ false → result ≡ Ok None }
     ensures err { OnErr result (dict.new ≡ dict.old) }
 {
-    remove_by(&mut dict.pairs, &View { bytes: key })
+    remove_by(&mut dict.pairs, &View::of(key))
 }
 
 // Whether there is a pair. If there is one, its key is copied and its value written.
@@ -349,7 +349,7 @@ pub extern "C" fn bptree_dict_next(
     ensures written { WritesPair (next by_bytes pairs key.now) result (out.old, len.old, value.old) (out.new, len.new, value.new) }
     ensures unchanged { WritesOnlyIf result out.old len.old value.old out.new len.new value.new }
 {
-    let found = next_by(&dict.peek().pairs, &View { bytes: key });
+    let found = next_by(&dict.peek().pairs, &View::of(key));
     write_pair(found, out, len, value)
 }
 
@@ -368,6 +368,6 @@ pub extern "C" fn bptree_dict_prev(
     ensures written { WritesPair (previous by_bytes pairs key.now) result (out.old, len.old, value.old) (out.new, len.new, value.new) }
     ensures unchanged { WritesOnlyIf result out.old len.old value.old out.new len.new value.new }
 {
-    let found = previous_by(&dict.peek().pairs, &View { bytes: key });
+    let found = previous_by(&dict.peek().pairs, &View::of(key));
     write_pair(found, out, len, value)
 }

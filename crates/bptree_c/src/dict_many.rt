@@ -28,8 +28,8 @@ pub extern "C" fn bptree_dict_range_len(dict: &mut DictHandle, from: &[u8], to: 
     ensures kept { dict.new.held ≡ Some pairs }
     ensures len { result ≡ count_below by_bytes to.now (keys_of pairs) - count_below by_bytes from.now (keys_of pairs) }
 {
-    let start = smaller_than(&dict.peek().pairs, &View { bytes: from });
-    let end = smaller_than(&dict.peek().pairs, &View { bytes: to });
+    let start = smaller_than(&dict.peek().pairs, &View::of(from));
+    let end = smaller_than(&dict.peek().pairs, &View::of(to));
     end.saturating_sub(start)
 }
 

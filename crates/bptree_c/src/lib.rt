@@ -26,6 +26,7 @@ mod pair;
 mod reading;
 mod record;
 mod results;
+mod version;
 mod writing;
 
 pub use batch::{
@@ -53,4 +54,5 @@ pub use reading::{
     bptree_prev, bptree_range_len, bptree_rank,
 };
 pub use record::Record;
+pub use version::bptree_version;
 pub use writing::{bptree_del, bptree_pop_first, bptree_pop_last, bptree_put, bptree_remove_at};

@@ -6,6 +6,7 @@ mod cloning;
 mod compared;
 mod cursors;
 mod equals;
+mod headed;
 mod iteration;
 mod loading;
 mod many;

@@ -1,4 +1,4 @@
-//! Callers of trees, of maps and sets, and of visits.
+//! Proved callers of trees, maps, sets and visits.
 #![tactic(auto)]
 
 mod callers;

@@ -1,4 +1,4 @@
-//! Ways down a B+ tree of nodes that summaries, visitors and remembered places lead.
+//! Descents of a tree that are led by summaries, visitors and cached positions.
 #![tactic(auto)]
 
 pub mod by_argument;

@@ -58,7 +58,7 @@ fn search<'a, S: NodeStore>(tree: &'a Nodes<S>, key: &S::K) -> Located<'a, S::K,
 /// Finds a key: `Ok` with its position, or `Err` with the position where it would be inserted.
 ///
 /// It searches for the leaf as `Nodes::leaf_for` does, and then once in that leaf, which makes
-/// O(log n) comparisons. It takes no memory and cannot fail.
+/// O(log n) comparisons. It allocates nothing and cannot fail.
 #[inline(always)]
 pub fn locate<S: NodeStore>(tree: &Nodes<S>, key: &S::K) -> Result<Position, Position>
     ensures { LocatesKey S.slots tree.now S.K.cmp key.now result }
@@ -91,7 +91,7 @@ fn stands_at<K: Ord + Drop, V: Drop>(leaf: &LeafNode<K, V>, offset: usize, key: 
 /// The slot on one side of a key that was searched for in a leaf: the first one whose key is not
 /// smaller, or on the side `After` the first one whose key is greater.
 ///
-/// O(1). It takes no memory and cannot fail.
+/// O(1). It allocates nothing and cannot fail.
 #[inline]
 pub fn slot_beside(place: Result<usize, usize>, side: Side) -> usize
     requires { place_of place ≤ 64 }
@@ -107,7 +107,7 @@ pub fn slot_beside(place: Result<usize, usize>, side: Side) -> usize
 /// The position on one side of a key that was searched for in a tree: the first one whose key is
 /// not smaller, or on the side `After` the first one whose key is greater.
 ///
-/// O(1). It takes no memory and cannot fail.
+/// O(1). It allocates nothing and cannot fail.
 #[inline]
 pub fn position_beside(found: Result<Position, Position>, side: Side) -> Position
     requires { place_of (slot_told found) ≤ 64 }
@@ -206,7 +206,7 @@ fn pair_past<'a, S: NodeStore>(
 /// The pair with the least greater key, and its position. The key need not be there.
 ///
 /// `hint` may be any position. If it is the key's, the search takes one comparison. If it is in the
-/// key's leaf, only that leaf is searched. Else it takes O(log n) comparisons. It takes no memory
+/// key's leaf, only that leaf is searched. Else it takes O(log n) comparisons. It allocates nothing
 /// and cannot fail.
 pub fn pair_after<'a, S: NodeStore>(
     tree: &'a Nodes<S>,
@@ -222,7 +222,8 @@ pub fn pair_after<'a, S: NodeStore>(
 /// The pair with the least key that is not smaller than `key`, or on the side `After` with the least
 /// greater key, and its position.
 ///
-/// It searches as `locate` does, and makes no other comparison. It takes no memory and cannot fail.
+/// It searches as `locate` does, and makes no other comparison. It allocates nothing and cannot
+/// fail.
 pub fn bound<'a, S: NodeStore>(tree: &'a Nodes<S>, key: &S::K, side: Side) -> Found<'a, S::K, S::V>
     ensures { option_map pair_read result ≡ pair_on S.K.cmp tree.now.contents key.now side }
 {
@@ -264,7 +265,7 @@ pub fn value_at<'a, S: NodeStore>(
 
 /// The pair with the least key, and its position, if the tree has a pair.
 ///
-/// O(height). It takes no memory and cannot fail.
+/// O(height). It allocates nothing and cannot fail.
 pub fn first_pair<S: NodeStore>(tree: &Nodes<S>) -> Found<'_, S::K, S::V>
     ensures { option_map pair_read result ≡ slice_get tree.now.contents 0 }
 {
@@ -274,7 +275,7 @@ pub fn first_pair<S: NodeStore>(tree: &Nodes<S>) -> Found<'_, S::K, S::V>
 
 /// The pair with the greatest key, and its position, if the tree has a pair.
 ///
-/// O(height). It takes no memory and cannot fail.
+/// O(height). It allocates nothing and cannot fail.
 pub fn last_pair<S: NodeStore>(tree: &Nodes<S>) -> Found<'_, S::K, S::V>
     ensures { option_map pair_read result ≡ last_member tree.now.contents }
 {

@@ -8,7 +8,7 @@ use bptree_keys::node_id::NodeId;
 use bptree_shape::nodes::Nodes;
 use bptree_stores::node_stores::NodeStore;
 
-/// What a visitor answers on a tree.
+/// What a visitor returns on a tree.
 ///
 /// It sees one inner node a level, with that node's own separators and summaries, until it ends or
 /// has seen one leaf.

@@ -19,9 +19,11 @@ use groups::Pair;
 use numbers::{Numbers, next_number, numbers_below, odd_numbers, shuffle, shuffled};
 use ordered::Mapped;
 use std::collections::BTreeMap;
+use strings::Form;
 use sweep_bptree::argument::CloneArgument;
 use sweep_bptree::{
-    BPlusTree, CloneStore, Count, GroupCount, NodeStoreVec, RankArgument, SearchArgument, Tuple2,
+    BPlusTree, CloneStore, Count, GroupCount, Headed, NodeStoreVec, RankArgument, SearchArgument,
+    Tuple2,
 };
 use timing::Report;
 
@@ -48,6 +50,32 @@ where
         && loaded::take::<S>(report, numbers)
 }
 
+type Headeds = NodeStoreVec<Headed<String>, u64>;
+
+// Strings whose first bytes differ, and strings whose first ten bytes are alike, with and without
+// heads.
+fn take_strings(plain: Report<'_>, kit: Report<'_>, numbers: Numbers<'_>) -> bool {
+    let text = Form {
+        front: "",
+        insert: "text-insert",
+        get: "text-get",
+    };
+    let alike = Form {
+        front: "alikealike",
+        insert: "alike-insert",
+        get: "alike-get",
+    };
+    let head = Report {
+        rt: plain.rt,
+        kind: "head",
+    };
+    strings::take::<String, BPlusTree<NodeStoreVec<String, u64>>>(plain, text, numbers)
+        && strings::take::<Headed<String>, BPlusTree<Headeds>>(head, text, numbers)
+        && strings::take::<String, BTreeMap<String, u64>>(kit, text, numbers)
+        && strings::take::<String, BPlusTree<NodeStoreVec<String, u64>>>(plain, alike, numbers)
+        && strings::take::<Headed<String>, BPlusTree<Headeds>>(head, alike, numbers)
+}
+
 // All calls on each of the trees, on maps and on sets.
 fn round(rt: &HostRuntime, numbers: Numbers<'_>) -> bool {
     let groups = Report { rt, kind: "groups" };
@@ -59,8 +87,7 @@ fn round(rt: &HostRuntime, numbers: Numbers<'_>) -> bool {
         && take_counted::<NodeStoreVec<u64, u64, Count>>(count, numbers)
         && ordered::take::<BTreeMap<u64, u64>>(kit, numbers)
         && ordered::fill_upward::<BTreeMap<u64, u64>>(kit, numbers)
-        && strings::take::<BPlusTree<NodeStoreVec<String, u64>>>(plain, numbers)
-        && strings::take::<BTreeMap<String, u64>>(kit, numbers)
+        && take_strings(plain, kit, numbers)
         && maps::take(plain, numbers)
         && moves::take(plain, numbers)
         && batches::take(count, numbers)
@@ -76,7 +103,7 @@ fn all_rounds(rt: &HostRuntime, numbers: Numbers<'_>, rounds: usize) -> bool {
     true
 }
 
-// Rounds over keys in two orders, and over the places below their number in a mixed order.
+// Rounds over keys in two orders, and over the places below their number in random order.
 fn rounds_over(
     rt: &HostRuntime,
     keys: &[u64],
@@ -130,7 +157,7 @@ fn put_numbers<T: Mapped<u64>>(tree: &mut T, many: usize) -> bool {
     true
 }
 
-// Fills a tree with so many pairs in a mixed order, and does nothing else.
+// Fills a tree with so many pairs in random order, and does nothing else.
 fn fill<T: Mapped<u64>>(rt: &HostRuntime, many: usize) -> bool {
     let Ok(mut tree) = T::made(rt.alloc()) else {
         return false;

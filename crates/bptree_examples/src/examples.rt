@@ -1,5 +1,5 @@
 //! The examples, and what each of them answers, line by line. Those that README.md and
-//! docs/CALLING.md show are modules of the crate itself.
+//! docs/COOKBOOK.md show are modules of the crate itself.
 
 mod argument;
 mod calendar;

@@ -17,7 +17,7 @@ pub fn filled<K: Key + Copy, V: Copy, A: Argument<K>>(
     Ok(map)
 }
 
-/// Removes the pair with a key, where there is one.
+/// Removes the pair with a key, if there is one.
 pub fn removed<K: Key, V: Drop, A: Argument<K>>(
     map: &mut BPlusTreeMap<K, V, A>,
     key: &K,

@@ -1,4 +1,4 @@
-//! Three things that have nothing in common but this program, in which they cost the gate least:
+//! Examples of the library, a benchmark, and a program that draws a tree.
 //!
 //! - examples: of maps and sets (`examples`), and those to be copied (`race`, `uses`, `filling`);
 //! - `benchmark`: the times of the calls of a tree;

@@ -1,4 +1,4 @@
-//! Insertion into a tree that stands in a store.
+//! Insertion into a tree that is in a store.
 ghost use Rattle.std.specs.Prelude.{◌≡◌, ◌≤◌, ◌<◌, ◌≢◌, IfOk, IfErr, OnErr, IfSome, false, true, length};
 ghost use Rattle.std.specs.List.Sorted.{IsSearchInRange};
 ghost use Rattle.bptree_keys.specs.Contents.{has, put};
@@ -42,7 +42,7 @@ fn separator<S: NodeStore>(
     store.get_leaf(id).data_at(32).0.clone()
 }
 
-// Puts a pair into a leaf that has room. It answers a summary of the leaf's keys.
+// Puts a pair into a leaf that has room. It returns a summary of the leaf's keys.
 fn add_at<S: NodeStore>(
     store: &mut S,
     id: LeafNodeId,
@@ -77,7 +77,7 @@ fn take_back<S: NodeStore>(store: &mut S, id: LeafNodeId, slot: usize) -> (S::K,
     pair
 }
 
-// Puts a pair with a new key into the leaf at the end of a path, which has room. It answers a
+// Puts a pair with a new key into the leaf at the end of a path, which has room. It returns a
 // summary of all keys.
 fn put_in_room<S: NodeStore>(
     store: &mut S,
@@ -102,7 +102,7 @@ fn put_in_room<S: NodeStore>(
     }
 }
 
-// Splits a full leaf, and puts the pair into one of the parts. It answers what the node above has
+// Splits a full leaf, and puts the pair into one of the parts. It returns what the node above has
 // to take.
 fn split_at<S: NodeStore>(
     store: &mut S,
@@ -199,7 +199,7 @@ fn remember_right<S: NodeStore>(store: &S, right: LeafNodeId, slot: usize) {
 }
 
 // Puts a pair with a new key into the leaf at the end of a path, which is split where it is full.
-// It answers the number of a new root, where the root was split too, and a summary of all keys.
+// It returns the number of a new root, where the root was split too, and a summary of all keys.
 fn put_new<S: NodeStore>(
     store: &mut S,
     path: &mut VisitStack,
@@ -243,7 +243,7 @@ fn replace_at<S: NodeStore>(store: &mut S, id: LeafNodeId, slot: usize, v: S::V)
     store.get_mut_leaf(id).replace_value(slot, v)
 }
 
-// The root and the height, with a new root where there is one.
+// The root and the height, with a new root if there is one.
 fn top_of(root: NodeId, height: usize, top: Option<InnerNodeId>) -> (NodeId, usize)
     requires { height ≤ 15 }
     ensures { result ≡ risen root height top }

@@ -1,4 +1,4 @@
-//! Insertion into a tree that stands in a store.
+//! Insertion into a tree of nodes in a store.
 #![tactic(auto)]
 
 pub mod insertion;

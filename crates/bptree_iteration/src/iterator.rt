@@ -14,7 +14,7 @@ use std::alloc::AllocError;
 use std::iter::{ExactSizeIterator, FusedIterator};
 use std::marker::{Model, PhantomData};
 
-/// The pairs that are left, in the order of their keys. No step takes memory.
+/// The pairs that are left, in the order of their keys. No step allocates.
 #[derive(Drop)]
 pub struct Iter<'a, S: NodeStore> {
     store: &'a S,
@@ -41,6 +41,8 @@ impl<'a, S: NodeStore> Model for Iter<'a, S> {
 
 impl<'a, S: NodeStore> Iter<'a, S> {
     /// The pairs of a part. It steps through no leaf.
+    ///
+    /// O(1). It allocates nothing and cannot fail.
     pub fn new(store: &'a S, part: Part) -> Self
         requires { IsPartIn (S.slots store.now) part }
         ensures { result ≡ pairs_of_part (S.slots store.now) part }
@@ -63,8 +65,8 @@ fn leaf_at<S: NodeStore>(store: &S, id: LeafNodeId) -> &LeafNode<S::K, S::V>
     store.get_leaf(id)
 }
 
-// The place in the first leaf up to which its pairs are between the two ends: its end, where it is
-// not the last leaf too.
+// The place in the first leaf up to which its pairs are between the two ends: its end, if it is not
+// the last leaf too.
 fn end_in<K: Drop, V: Drop>(front: LeafNodeId, leaf: &LeafNode<K, V>, back: Position) -> usize
     ensures { IsEndIn front back.leaf back.slot leaf.now result }
 {

@@ -30,6 +30,8 @@ pub enum SearchHint {
 
 impl SearchHint {
     /// The hint for a leaf below so many levels of inner nodes: `Far` from three levels on.
+    ///
+    /// O(1). It allocates nothing and cannot fail.
     pub fn below(levels: usize) -> Self {
         if levels >= FAR_LEVELS {
             SearchHint::Far
@@ -55,6 +57,8 @@ impl Model for Compares {
 
 impl Compares {
     /// A counter at 0.
+    ///
+    /// O(1). It allocates nothing and cannot fail.
     pub fn new() -> Self
         ensures { result ≡ 0 }
     {
@@ -62,6 +66,8 @@ impl Compares {
     }
 
     /// The number of comparisons that were counted.
+    ///
+    /// O(1). It allocates nothing and cannot fail.
     pub fn count(&self) -> usize
         ensures { result ≡ self.now }
     {
@@ -69,6 +75,8 @@ impl Compares {
     }
 
     /// Compares two keys, and adds one to the count.
+    ///
+    /// O(1) beside the comparison. It cannot fail.
     pub fn compare<K: Ord>(&mut self, a: &K, b: &K) -> Ordering
         ensures order { result ≡ K.cmp a.now b.now }
         ensures count { self.new ≡ min (self.old + 1) usize.MAX }
@@ -80,7 +88,7 @@ impl Compares {
 }
 
 // Leaves of the `width` keys from `base` on, among which the place of `key` is, as `few` as are
-// wanted, and answers where they begin. It halves them, and each step moves by a product, so that
+// wanted, and returns where they begin. It halves them, and each step moves by a product, so that
 // the compiler makes no branch on a comparison, which would be foreseen wrongly each second time.
 #[inline(always)]
 fn halved<K: Ord>(

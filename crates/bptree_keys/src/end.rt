@@ -13,6 +13,8 @@ pub enum End {
 
 impl End {
     /// Whether this is the end with the last item.
+    ///
+    /// O(1). It allocates nothing and cannot fail.
     pub fn is_back(self) -> bool
         ensures { result ≡ is_back self }
     {

@@ -11,7 +11,7 @@ ghost use Rattle.bptree_keys.specs.Keys.{equal_if_same, then_equal, AllInfallibl
 pub trait Key: Clone + Ord {
     /// Whether no clone of a key fails. The default is `false`, which is always allowed.
     ///
-    /// O(1). It takes no memory and cannot fail.
+    /// O(1). It allocates nothing and cannot fail.
     fn clones_never_fail() -> bool
         ensures { IsTrue result → AllInfallible Self.is_infallible }
     {

@@ -39,6 +39,8 @@ impl InnerNodeId {
     pub const INVALID: InnerNodeId = InnerNodeId(usize::MAX);
 
     /// The inner node under a number.
+    ///
+    /// O(1). It allocates nothing and cannot fail.
     pub fn from_usize(number: usize) -> Self
         ensures { result ≡ record { 0 = number } }
     {
@@ -46,6 +48,8 @@ impl InnerNodeId {
     }
 
     /// The number itself.
+    ///
+    /// O(1). It allocates nothing and cannot fail.
     pub fn as_usize(self) -> usize
         ensures { result ≡ self.0 }
     {
@@ -55,6 +59,8 @@ impl InnerNodeId {
 
 impl LeafNodeId {
     /// The leaf under a number.
+    ///
+    /// O(1). It allocates nothing and cannot fail.
     pub fn from_usize(number: usize) -> Self
         ensures { result ≡ record { 0 = number } }
     {
@@ -62,6 +68,8 @@ impl LeafNodeId {
     }
 
     /// The number itself.
+    ///
+    /// O(1). It allocates nothing and cannot fail.
     pub fn as_usize(self) -> usize
         ensures { result ≡ self.0 }
     {
@@ -71,6 +79,8 @@ impl LeafNodeId {
 
 impl NodeId {
     /// The number, where it is a leaf's.
+    ///
+    /// O(1). It allocates nothing and cannot fail.
     pub fn leaf_id(self) -> Option<LeafNodeId>
         ensures { result ≡ leaf_number self }
     {
@@ -81,6 +91,8 @@ impl NodeId {
     }
 
     /// The number, where it is an inner node's.
+    ///
+    /// O(1). It allocates nothing and cannot fail.
     pub fn inner_id(self) -> Option<InnerNodeId>
         ensures { result ≡ inner_number self }
     {
@@ -91,6 +103,8 @@ impl NodeId {
     }
 
     /// The number of a leaf, which this must be.
+    ///
+    /// O(1). It allocates nothing and cannot fail.
     pub fn leaf_id_unchecked(self) -> LeafNodeId
         requires { IsSome (leaf_number self) }
         ensures { self ≡ Leaf result }
@@ -102,6 +116,8 @@ impl NodeId {
     }
 
     /// The number of an inner node, which this must be.
+    ///
+    /// O(1). It allocates nothing and cannot fail.
     pub fn inner_id_unchecked(self) -> InnerNodeId
         requires { IsSome (inner_number self) }
         ensures { self ≡ Inner result }

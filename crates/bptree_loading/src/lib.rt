@@ -1,5 +1,5 @@
-//! Pairs that come in the order of their keys: the last pair of each run of equal keys, and how
-//! many each node takes.
+//! Pairs in the order of their keys: the last pair of each run of equal keys, and how many pairs
+//! each node takes.
 #![tactic(auto)]
 
 pub mod cuts;

@@ -9,6 +9,8 @@ use std::cmp::Ordering;
 
 /// Whether no key is above the next one. Each key is compared with the next, up to the first that
 /// is above it.
+///
+/// O(n) for n pairs. It allocates nothing and cannot fail.
 pub fn in_load_order<K: Key, V>(pairs: &[(K, V)]) -> bool
     ensures { IsTrue result ↔ IsInLoadOrder K.cmp pairs.now }
 {
@@ -92,7 +94,7 @@ fn by_key<K: Key, V>(pair: &(K, V), other: &(K, V)) -> Ordering
 /// Pairs with equal keys keep the order that they came in: so the last of them is the last of its
 /// run.
 ///
-/// More than 20 pairs take memory while they are sorted. A refusal leaves them in their places.
+/// More than 20 pairs allocate while they are sorted. A failure leaves them in their places.
 pub fn sort_for_load<K: Key, V: Drop>(pairs: &mut Vec<(K, V)>) -> Result<(), AllocError>
     ensures order { OnOk result (IsInLoadOrder K.cmp pairs.new.items) }
     ensures gather { OnOk result (load K.cmp pairs.new.items ≡ gather K.cmp pairs.old.items) }

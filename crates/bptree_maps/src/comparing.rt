@@ -16,10 +16,11 @@ use std::fmt;
 use std::fmt::{Debug, Formatter, Write};
 use std::hash::{Hash, Hasher};
 
-/// Two maps are equal where they have as many pairs, and at each place equal keys and equal values.
-/// It takes no memory.
+/// Two maps are equal if they have equally many pairs, with equal keys and equal values at each
+/// index.
 ///
-/// Where the lengths differ, nothing is compared; else it stops at the first two pairs that differ.
+/// O(1) if the lengths differ, else O(n): it stops at the first two pairs that differ. It allocates
+/// nothing and cannot fail.
 impl<K: Key, V: PartialEq + Drop, A: Argument<K>> PartialEq for BPlusTreeMap<K, V, A> {
     ghost eq = { pairs_eq K.eq V.eq };
 
@@ -46,9 +47,10 @@ impl<K: Key, V: Eq + Drop, A: Argument<K>> Eq for BPlusTreeMap<K, V, A> {
     ghost laws = { lists_equiv (and_equiv (on_equiv (λ p. p.0) K.Eq.laws) (on_equiv (λ p. p.1) V.Eq.laws)) };
 }
 
-/// The first two pairs that differ decide, by their keys, and by their values where the keys are
-/// equal; and else the lengths do. There is no order where these two values have none. It takes no
-/// memory.
+/// The first two pairs that differ decide, by their keys, or by their values if the keys are equal.
+/// If no two differ, the lengths decide. If the two values have no order, the maps have none.
+///
+/// O(n). It allocates nothing and cannot fail.
 impl<K: Key, V: PartialOrd + Drop, A: Argument<K>> PartialOrd for BPlusTreeMap<K, V, A> {
     ghost partial_cmp = { pairs_partial_cmp K.partial_cmp V.partial_cmp };
 
@@ -72,8 +74,10 @@ impl<K: Key, V: PartialOrd + Drop, A: Argument<K>> PartialOrd for BPlusTreeMap<K
     }
 }
 
-/// The first two pairs that differ decide, by their keys, and by their values where the keys are
-/// equal; and else the lengths do. It takes no memory.
+/// The first two pairs that differ decide, by their keys, or by their values if the keys are equal.
+/// If no two differ, the lengths decide.
+///
+/// O(n). It allocates nothing and cannot fail.
 impl<K: Key, V: Ord + Drop, A: Argument<K>> Ord for BPlusTreeMap<K, V, A> {
     ghost cmp = { pairs_cmp K.cmp V.cmp };
 
@@ -91,7 +95,7 @@ impl<K: Key, V: Ord + Drop, A: Argument<K>> Ord for BPlusTreeMap<K, V, A> {
     }
 }
 
-/// The number of pairs is hashed, and then each key with its value. It takes no memory.
+/// The number of pairs is hashed, and then each key with its value. It allocates nothing.
 impl<K: Key + Hash, V: Hash + Drop, A: Argument<K>> Hash for BPlusTreeMap<K, V, A> {
     ghost hash_input = { pairs_hash_input K.hash_input V.hash_input };
 

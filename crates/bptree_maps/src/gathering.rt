@@ -21,7 +21,7 @@ pub(crate) fn gather_tree<K: Key, V: Drop, A: Argument<K>>(
     BPlusTree::bulk_load(pairs)
 }
 
-/// The same for a map. A refusal for want of memory drops the pairs.
+/// The same for a map. A failed allocation drops the pairs.
 pub fn gather_map<K: Key, V: Drop, A: Argument<K>>(
     pairs: Vec<(K, V)>,
 ) -> Result<BPlusTreeMap<K, V, A>, AllocError>
@@ -32,6 +32,8 @@ pub fn gather_map<K: Key, V: Drop, A: Argument<K>>(
 
 /// What is gathered of pairs whose keys ascend is these pairs: so `from_iter` of what `into_iter`
 /// gives is the same list. It does nothing.
+///
+/// O(1). It cannot fail.
 pub fn law_of_from_iter<K: Key, V>()
     ensures { (l : List (K × V)) → IsAscending K.cmp l → gather K.cmp l ≡ l }
 {}

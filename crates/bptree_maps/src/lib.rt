@@ -1,5 +1,4 @@
-//! An ordered map over a B+ tree of its own, and what maps and sets share: how pairs are gathered,
-//! and the errors of calls that move many pairs.
+//! An ordered map over a B+ tree of its own, and what maps and sets share.
 #![tactic(auto)]
 
 mod comparing;

@@ -80,7 +80,9 @@ impl<K: Key, V: Drop, A: Argument<K>> Model for BPlusTreeMap<K, V, A> {
 }
 
 impl<K: Key, V: Drop, A: Argument<K>> BPlusTreeMap<K, V, A> {
-    /// A map with no pairs. Its one leaf takes memory.
+    /// A map with no pairs. Its one leaf allocates.
+    ///
+    /// O(1). It fails only if an allocation fails.
     pub fn new(alloc: Global) -> Result<Self, AllocError>
         ensures { IfOk result (λ map. map ≡ []) }
     {
@@ -90,17 +92,20 @@ impl<K: Key, V: Drop, A: Argument<K>> BPlusTreeMap<K, V, A> {
     }
 
     /// The same as `new`.
+    ///
+    /// O(1). It fails only if an allocation fails.
     pub fn default(alloc: Global) -> Result<Self, AllocError>
         ensures { IfOk result (λ map. map ≡ []) }
     {
         BPlusTreeMap::new(alloc)
     }
 
-    /// The pairs that an iterator gives, in the order of their keys: of each key the last pair,
-    /// with its key, is held.
+    /// Makes a map of the pairs of an iterator, in any order. Of pairs with equal keys the last one
+    /// is kept, with its key.
     ///
-    /// The pairs are collected, sorted by the standard library's stable sort, and loaded at once. A
-    /// refusal for want of memory drops all that was given.
+    /// O(n log n) for n pairs: they are collected in a vector, sorted by the standard library's
+    /// stable sort, and loaded. It fails only if an allocation, a clone of a key or a summary
+    /// fails; then the pairs are dropped.
     pub fn from_iter<I: IntoIterator<Item = (K, V)>>(
         alloc: Global,
         pairs: I,
@@ -123,6 +128,8 @@ impl<K: Key, V: Drop, A: Argument<K>> BPlusTreeMap<K, V, A> {
     }
 
     /// The number of pairs.
+    ///
+    /// O(1). It allocates nothing and cannot fail.
     pub fn len(&self) -> usize
         ensures value { result ≡ length self.now }
         ensures ascending { IsAscending K.cmp self.now }
@@ -132,6 +139,8 @@ impl<K: Key, V: Drop, A: Argument<K>> BPlusTreeMap<K, V, A> {
 
     /// Recalls what holds of every map, for the proofs of callers: the length fits in 64 bits, and the
     /// keys ascend. It does nothing, in constant time, and never fails.
+    ///
+    /// O(1).
     #[inline(always)]
     pub fn recall(&self)
         ensures fits { length self.now < 2 ^ 64 }
@@ -141,27 +150,35 @@ impl<K: Key, V: Drop, A: Argument<K>> BPlusTreeMap<K, V, A> {
     }
 
     /// Whether there are no pairs.
+    ///
+    /// O(1). It allocates nothing and cannot fail.
     pub fn is_empty(&self) -> bool
         ensures { IsTrue result ↔ (self.now ≡ []) }
     {
         self.len() == 0
     }
 
-    /// The value at a key equal to `k`.
+    /// The value at the key that equals `k`, or `None`.
+    ///
+    /// O(log n). It allocates nothing and cannot fail.
     pub fn get(&self, k: &K) -> Option<&V>
         ensures { option_copied result ≡ value K.cmp self.now k.now }
     {
         self.inner.get(k)
     }
 
-    /// Whether some key equals `k`. It costs what `get` does.
+    /// Whether a key equals `k`.
+    ///
+    /// O(log n). It allocates nothing and cannot fail.
     pub fn contains_key(&self, k: &K) -> bool
         ensures { result ≡ has K.cmp self.now k.now }
     {
         self.get(k).is_some()
     }
 
-    /// The pair whose key equals `k`, with the key that is stored. It costs what `get` does.
+    /// The pair whose key equals `k`, with the stored key, or `None`.
+    ///
+    /// O(log n). It allocates nothing and cannot fail.
     pub fn get_key_value(&self, k: &K) -> Option<(&K, &V)>
         ensures { option_map deref_pair result ≡ entry K.cmp self.now k.now }
     {
@@ -170,6 +187,9 @@ impl<K: Key, V: Drop, A: Argument<K>> BPlusTreeMap<K, V, A> {
 
     /// The value at a key equal to `k`, and a count of comparisons of keys: at least 1 unless the
     /// map is empty. That the search makes no comparison that it does not count is tested.
+    ///
+    /// O(log n), or O(1) if the store has cached the leaf of `k`. It allocates nothing and cannot
+    /// fail.
     pub fn get_counted(&self, k: &K) -> (Option<&V>, usize)
         ensures value { option_copied result.0 ≡ value K.cmp self.now k.now }
         ensures count { AreFewFor (length self.now) result.1 }
@@ -180,7 +200,9 @@ impl<K: Key, V: Drop, A: Argument<K>> BPlusTreeMap<K, V, A> {
         self.inner.get_counted(k)
     }
 
-    /// The value at a key equal to `k`, for writing.
+    /// The value at the key that equals `k`, for writing, or `None`.
+    ///
+    /// O(log n). It allocates nothing and cannot fail.
     pub fn get_mut(&mut self, k: &K) -> Option<&mut V>
         ensures* writes_back { sem 𝓛 (LendsIf (map_row K.row V.row A.row K.Key A.Argument) V.row self.entry result (written K.cmp k.now self.old) self.old) }
         ensures value { option_copied_mut result ≡ value K.cmp self.old k.now }
@@ -188,11 +210,13 @@ impl<K: Key, V: Drop, A: Argument<K>> BPlusTreeMap<K, V, A> {
         self.inner.get_mut(k)
     }
 
-    /// Puts `v` at `k`, and hands back the value that was there.
+    /// Inserts `v` at `k`, and returns the value that was at `k` before. If a key equals `k`, that
+    /// key is kept and only its value is replaced.
     ///
-    /// A key that equals `k` stays, and its value alone is replaced: that takes no memory and is
-    /// never refused. A pair with a new key can be refused: for want of memory, or in a map of
-    /// `usize::MAX` pairs. Then nothing has changed.
+    /// O(log n), amortized over the growth of the store. It allocates if a leaf is full, and fails
+    /// with `OutOfMemory` if an allocation, a clone of a key or a summary fails. It fails with
+    /// `Full` if the map has `usize::MAX` pairs and `k` is new. Then the map is unchanged, and the
+    /// error returns `k` and `v`. If a key equals `k`, it allocates nothing and cannot fail.
     pub fn insert(&mut self, k: K, v: V) -> Result<Option<V>, InsertError<K, V>>
         ensures ok { IfOk result (Puts K.cmp k v self.old self.new) }
         ensures err { IfErr result (HandsBack (k, v) self.old self.new) }
@@ -202,9 +226,11 @@ impl<K: Key, V: Drop, A: Argument<K>> BPlusTreeMap<K, V, A> {
         self.inner.insert(k, v)
     }
 
-    /// Removes the pair whose key equals `k`, and hands back its value. Where no key does, nothing
-    /// changes and nothing can be refused. The removal of a pair can be refused for want of memory;
-    /// then nothing has changed.
+    /// Removes the pair whose key equals `k`, and returns its value, or `None` if there is no such
+    /// key.
+    ///
+    /// O(log n). It fails only if a clone of a key or a summary fails; then the map is unchanged.
+    /// If there is no such key, it cannot fail.
     pub fn remove(&mut self, k: &K) -> Result<Option<V>, AllocError>
         ensures ok { IfOk result (Removes K.cmp k.now self.old self.new) }
         ensures absent { has K.cmp self.old k.now ≡ false → result ≡ Ok None }
@@ -215,6 +241,8 @@ impl<K: Key, V: Drop, A: Argument<K>> BPlusTreeMap<K, V, A> {
     }
 
     /// The pair with the least key.
+    ///
+    /// O(log n). It allocates nothing and cannot fail.
     pub fn first(&self) -> Option<(&K, &V)>
         ensures { option_map deref_pair result ≡ slice_get self.now 0 }
     {
@@ -222,30 +250,36 @@ impl<K: Key, V: Drop, A: Argument<K>> BPlusTreeMap<K, V, A> {
     }
 
     /// The pair with the greatest key.
+    ///
+    /// O(log n). It allocates nothing and cannot fail.
     pub fn last(&self) -> Option<(&K, &V)>
         ensures { option_map deref_pair result ≡ last_member self.now }
     {
         self.inner.last()
     }
 
-    /// The pair with the least key: the same as `first`.
+    /// The pair with the least key, or `None`. It is `first` under the name that `BTreeMap` has.
+    ///
+    /// O(log n). It allocates nothing and cannot fail.
     pub fn first_key_value(&self) -> Option<(&K, &V)>
         ensures { option_map deref_pair result ≡ slice_get self.now 0 }
     {
         self.first()
     }
 
-    /// The pair with the greatest key: the same as `last`.
+    /// The pair with the greatest key, or `None`. It is `last` under the name that `BTreeMap` has.
+    ///
+    /// O(log n). It allocates nothing and cannot fail.
     pub fn last_key_value(&self) -> Option<(&K, &V)>
         ensures { option_map deref_pair result ≡ last_member self.now }
     {
         self.last()
     }
 
-    /// A cursor on the least key that is not below `k`, and the value there. It takes what a clone
-    /// of that key takes, and where there is none it takes nothing.
+    /// A cursor on the least key that is not below `k`, with its value, or `None`.
     ///
-    /// It costs what `get` does, and where `k` itself is not there one more search of its leaf.
+    /// O(log n). It clones that key, and fails only if the clone fails. If there is no such key, it
+    /// cannot fail.
     pub fn lower_bound(&self, k: &K) -> Result<Option<(Cursor<K>, &V)>, AllocError>
         ensures cursor { IfOk result (PointsAt K.cmp (at_least K.cmp self.now k.now)) }
         ensures value { IfOk result (ShowsValueOf (at_least K.cmp self.now k.now)) }
@@ -255,10 +289,10 @@ impl<K: Key, V: Drop, A: Argument<K>> BPlusTreeMap<K, V, A> {
         self.inner.lower_bound(k)
     }
 
-    /// A cursor on the least key above `k`, and the value there. It takes what a clone of that key
-    /// takes, and where there is none it takes nothing.
+    /// A cursor on the least key above `k`, with its value, or `None`.
     ///
-    /// It costs what `get` does, and one more search of the leaf.
+    /// O(log n). It clones that key, and fails only if the clone fails. If there is no such key, it
+    /// cannot fail.
     pub fn upper_bound(&self, k: &K) -> Result<Option<(Cursor<K>, &V)>, AllocError>
         ensures cursor { IfOk result (PointsAt K.cmp (next K.cmp self.now k.now)) }
         ensures value { IfOk result (ShowsValueOf (next K.cmp self.now k.now)) }
@@ -268,9 +302,11 @@ impl<K: Key, V: Drop, A: Argument<K>> BPlusTreeMap<K, V, A> {
         self.inner.upper_bound(k)
     }
 
-    /// Removes the pair whose key equals `k`, and hands it back with the key that was stored. Where
-    /// no key does, nothing changes and nothing can be refused. Where the removal is refused for
-    /// want of memory, nothing has changed.
+    /// Removes the pair whose key equals `k`, and returns it with the stored key, or `None` if
+    /// there is no such key.
+    ///
+    /// O(log n). It fails only if a clone of a key or a summary fails; then the map is unchanged.
+    /// If there is no such key, it cannot fail.
     pub fn remove_entry(&mut self, k: &K) -> Result<Option<(K, V)>, AllocError>
         ensures ok { IfOk result (RemovesEntry K.cmp k.now self.old self.new) }
         ensures absent { has K.cmp self.old k.now ≡ false → result ≡ Ok None }
@@ -294,11 +330,10 @@ impl<K: Key, V: Drop, A: Argument<K>> BPlusTreeMap<K, V, A> {
         self.inner.replace_key(k)
     }
 
-    /// Removes the pair with the least key, and hands it back with the key that was stored: none of
-    /// an empty map, where nothing can be refused.
+    /// Removes the pair with the least key, and returns it, or `None` if the map is empty.
     ///
-    /// It is one way down, on which no key is compared. Where the removal is refused for want of
-    /// memory, nothing has changed.
+    /// O(log n): one descent, which compares no key. It fails only if a clone of a key or a summary
+    /// fails; then the map is unchanged. If the map is empty, it cannot fail.
     pub fn pop_first(&mut self) -> Result<Option<(K, V)>, AllocError>
         ensures ok { IfOk result (IsPopped K.cmp self.old self.new) }
         ensures stored { IfOk result (PopsFirst self.old self.new) }
@@ -309,11 +344,10 @@ impl<K: Key, V: Drop, A: Argument<K>> BPlusTreeMap<K, V, A> {
         self.inner.pop_first()
     }
 
-    /// Removes the pair with the greatest key, and hands it back with the key that was stored: none
-    /// of an empty map, where nothing can be refused.
+    /// Removes the pair with the greatest key, and returns it, or `None` if the map is empty.
     ///
-    /// It is one way down, on which no key is compared. Where the removal is refused for want of
-    /// memory, nothing has changed.
+    /// O(log n): one descent, which compares no key. It fails only if a clone of a key or a summary
+    /// fails; then the map is unchanged. If the map is empty, it cannot fail.
     pub fn pop_last(&mut self) -> Result<Option<(K, V)>, AllocError>
         ensures stored { IfOk result (PopsLast self.old self.new) }
         ensures empty { self.old ≡ [] → result ≡ Ok None }
@@ -323,7 +357,10 @@ impl<K: Key, V: Drop, A: Argument<K>> BPlusTreeMap<K, V, A> {
         self.inner.pop_last()
     }
 
-    /// Removes all pairs. The new leaf takes memory; where that is refused, nothing has changed.
+    /// Removes all pairs.
+    ///
+    /// O(n) to drop them. It allocates one leaf, and fails only if that fails; then the map is
+    /// unchanged.
     pub fn clear(&mut self) -> Result<(), AllocError>
         ensures ok { IfOk result (λ _. self.new ≡ []) }
         ensures err { OnErr result (self.new ≡ self.old) }
@@ -332,14 +369,18 @@ impl<K: Key, V: Drop, A: Argument<K>> BPlusTreeMap<K, V, A> {
     }
 
     /// A summary of all keys; of no keys what `Default` makes.
+    ///
+    /// O(1). It allocates nothing and cannot fail.
     pub fn root_argument(&self) -> &A
         ensures { A.is_summary result.now (keys_of self.now) }
     {
         self.inner.root_argument()
     }
 
-    /// The pair at a place that is allowed for the query, or none. It takes no memory but what the
-    /// argument takes.
+    /// The pair at an index that is allowed for the query, or `None`.
+    ///
+    /// O(log n): one descent, which asks the argument once a level. It allocates only what the
+    /// argument allocates, and fails only if the argument does.
     pub fn get_by_argument(
         &self,
         query: <A as SearchArgument<K>>::Query,
@@ -352,12 +393,10 @@ impl<K: Key, V: Drop, A: Argument<K>> BPlusTreeMap<K, V, A> {
         self.inner.get_by_argument(query)
     }
 
-    /// The value at a place that is allowed for the query, for writing. It takes no memory but what
-    /// the argument takes.
+    /// The value at an index that is allowed for the query, for writing.
     ///
-    /// That one value alone is written, and no key, so that the summaries stay. With `NotFound`,
-    /// where no place is allowed, and with `OutOfMemory`, where the argument is refused memory,
-    /// nothing has changed.
+    /// O(log n). It fails with `NotFound` if no index is allowed, and with `OutOfMemory` if the
+    /// argument fails to allocate. Only that value is written: keys and summaries are unchanged.
     pub fn get_mut_by_argument(
         &mut self,
         query: <A as SearchArgument<K>>::Query,
@@ -372,8 +411,10 @@ impl<K: Key, V: Drop, A: Argument<K>> BPlusTreeMap<K, V, A> {
         self.inner.get_mut_by_argument(query)
     }
 
-    /// Removes the pair at a place that is allowed for the query, and hands it back. Where none is
-    /// found, nothing changes; a refusal for want of memory changes nothing either.
+    /// Removes the pair at an index that is allowed for the query, and returns it, or `None`.
+    ///
+    /// O(log n). It fails only if a clone of a key or the argument fails; then the map is
+    /// unchanged.
     pub fn remove_by_argument(
         &mut self,
         query: <A as SearchArgument<K>>::Query,
@@ -388,8 +429,10 @@ impl<K: Key, V: Drop, A: Argument<K>> BPlusTreeMap<K, V, A> {
         self.inner.remove_by_argument(query)
     }
 
-    /// The rank of a key, which need not be present: `Ok` where it is. It takes no memory but what
-    /// the argument takes.
+    /// The rank of a key: `Ok` if the key is present, and else `Err`, within a `Result`.
+    ///
+    /// O(log n): one descent, which asks the argument once a level. It allocates only what the
+    /// argument allocates, and fails only if the argument does.
     pub fn rank_by_argument(
         &self,
         k: &K,
@@ -403,8 +446,10 @@ impl<K: Key, V: Drop, A: Argument<K>> BPlusTreeMap<K, V, A> {
         self.inner.rank_by_argument(k)
     }
 
-    /// What a visitor answers on its way down, or none where it ends without an answer. It takes no
-    /// memory but what the visitor takes.
+    /// The result of a visitor on one descent, or `None` if it ends without one.
+    ///
+    /// O(log n). It allocates only what the visitor allocates, and fails only if the visitor does,
+    /// or names a child that does not exist.
     pub fn descend_visit<W: DescendVisit<K, V, A>>(
         &self,
         visitor: W,
@@ -415,7 +460,9 @@ impl<K: Key, V: Drop, A: Argument<K>> BPlusTreeMap<K, V, A> {
         self.inner.descend_visit(visitor)
     }
 
-    /// The pairs in the order of their keys. It takes no memory, and neither do its steps.
+    /// An iterator over the pairs in the order of their keys, from both ends.
+    ///
+    /// O(log n) to begin, and O(1) a step. Neither it nor a step allocates or fails.
     pub fn iter(&self) -> Iter<'_, K, V, A>
         ensures rest { result ≡ self.now }
         ensures ascending { IsAscending K.cmp self.now }
@@ -424,7 +471,9 @@ impl<K: Key, V: Drop, A: Argument<K>> BPlusTreeMap<K, V, A> {
         Iter::new(self.inner.iter())
     }
 
-    /// The keys in their order. It takes no memory, and neither do its steps.
+    /// An iterator over the keys in their order, from both ends.
+    ///
+    /// O(log n) to begin, and O(1) a step. Neither it nor a step allocates or fails.
     pub fn keys(&self) -> Keys<'_, K, V, A>
         ensures rest { result ≡ keys_of self.now }
         ensures ascending { IsStrictlySortedBy K.cmp result }
@@ -433,7 +482,9 @@ impl<K: Key, V: Drop, A: Argument<K>> BPlusTreeMap<K, V, A> {
         Keys::new(self.iter())
     }
 
-    /// The values in the order of their keys. It takes no memory, and neither do its steps.
+    /// An iterator over the values in the order of their keys, from both ends.
+    ///
+    /// O(log n) to begin, and O(1) a step. Neither it nor a step allocates or fails.
     pub fn values(&self) -> Values<'_, K, V, A>
         ensures rest { result ≡ values_of self.now }
         ensures runs { ShowsInOrder (deref {X = V}) }
@@ -441,8 +492,9 @@ impl<K: Key, V: Drop, A: Argument<K>> BPlusTreeMap<K, V, A> {
         Values::new(self.iter())
     }
 
-    /// The keys in their order, each handed over; each value is dropped at its step. It takes no
-    /// memory, and neither do its steps.
+    /// An iterator that moves the keys out, in their order. Each value is dropped at its step.
+    ///
+    /// O(log n) to begin, and O(1) a step. Neither it nor a step allocates or fails.
     pub fn into_keys(self) -> IntoKeys<K, V, A>
         ensures rest { result ≡ keys_of self }
         ensures ascending { IsStrictlySortedBy K.cmp result }
@@ -452,8 +504,10 @@ impl<K: Key, V: Drop, A: Argument<K>> BPlusTreeMap<K, V, A> {
         IntoKeys::new(self.into_iter())
     }
 
-    /// The values in the order of their keys, each handed over; each key is dropped at its step. It
-    /// takes no memory, and neither do its steps.
+    /// An iterator that moves the values out, in the order of their keys. Each key is dropped at
+    /// its step.
+    ///
+    /// O(log n) to begin, and O(1) a step. Neither it nor a step allocates or fails.
     pub fn into_values(self) -> IntoValues<K, V, A>
         ensures rest { result ≡ values_of self }
         ensures runs { GivesInOrder V }
@@ -462,8 +516,9 @@ impl<K: Key, V: Drop, A: Argument<K>> BPlusTreeMap<K, V, A> {
         IntoValues::new(self.into_iter())
     }
 
-    /// The pairs in the order of their keys, each with its value. It takes no memory, and neither
-    /// do its steps.
+    /// An iterator that moves the pairs out, in the order of their keys.
+    ///
+    /// O(log n) to begin, and O(1) a step. Neither it nor a step allocates or fails.
     pub fn into_iter(self) -> IntoIter<K, V, A>
         ensures rest { result ≡ self }
         ensures ascending { IsAscending K.cmp self }
@@ -473,11 +528,11 @@ impl<K: Key, V: Drop, A: Argument<K>> BPlusTreeMap<K, V, A> {
         IntoIter::new(self.inner.into_iter())
     }
 
-    /// The pairs whose key is not below `lo` and is below `hi`, where they are given, in the order
-    /// of their keys. It takes no memory, and neither do its steps.
+    /// The pairs whose keys are at least `lo` and below `hi`, in the order of their keys. `None`
+    /// stands for no bound.
     ///
-    /// Each end that is given is searched for once. How many pairs there are is told when it is
-    /// asked, by a step for each leaf between.
+    /// O(log n) to begin: one descent for each bound, whatever the number of pairs. O(1) a step.
+    /// `len` takes O(1) for each leaf of the range. Neither it nor a step allocates or fails.
     pub fn range<'b>(&self, lo: Option<&'b K>, hi: Option<&'b K>) -> Iter<'_, K, V, A>
         ensures rest { result ≡ pairs_between K.cmp self.now lo.entry hi.entry }
         ensures ascending { IsAscending K.cmp result }
@@ -486,21 +541,24 @@ impl<K: Key, V: Drop, A: Argument<K>> BPlusTreeMap<K, V, A> {
         Iter::new(self.inner.range(lo, hi))
     }
 
-    /// A summary of the keys that are not below `lo` and are below `hi`, where they are given; of
-    /// no keys what `Default` makes.
+    /// A summary of the keys that are at least `lo` and below `hi`, or `Default` if there are none.
+    /// `None` stands for no bound.
     ///
-    /// It takes a way down for each end that is given, however many pairs stand between: the
-    /// summaries of the children between the ways are summed up. It fails only where the argument
-    /// does, or where room for two summaries is refused.
+    /// O(log n): one descent for each bound, whatever the number of pairs. The summaries of the
+    /// children between both descents are combined. It fails only if the argument does, or if the
+    /// allocation of room for two summaries fails.
     pub fn range_argument<'b>(&self, lo: Option<&'b K>, hi: Option<&'b K>) -> Result<A, AllocError>
         ensures { IfOk result (SumsUpBetween A.is_summary K.cmp self.now lo.entry hi.entry) }
     {
         self.inner.range_argument(lo, hi)
     }
 
-    /// A summary of the keys from a place that is allowed for one query on, up to a place that is
-    /// allowed for another. Where there is none for the second, it goes up to the end. Where there
-    /// is none for the first, it is of no keys.
+    /// A summary of the keys from an index that is allowed for one query on, up to an index that is
+    /// allowed for another. If no index is allowed for the second query, it is of all keys from the
+    /// first one on. If none is allowed for the first, it is of no keys.
+    ///
+    /// O(log n). It fails only if the argument does, or if the allocation of room for two summaries
+    /// fails.
     pub fn part_argument(
         &self,
         from: <A as SearchArgument<K>>::Query,
@@ -513,12 +571,12 @@ impl<K: Key, V: Drop, A: Argument<K>> BPlusTreeMap<K, V, A> {
         self.inner.part_argument(from, to)
     }
 
-    /// The first `n` pairs, or all where there are fewer, from a place on that is allowed for the
-    /// query, in the order of their keys; none where none is. It takes no memory but what the
-    /// argument takes, and its steps take none.
+    /// At most `n` pairs from an index on that is allowed for the query, in the order of their
+    /// keys. If no index is allowed, there are none.
     ///
-    /// The query is asked once on each level. How many pairs there are is told when it is asked, by
-    /// a step for each leaf of the part.
+    /// O(log n) to begin, and O(1) a step. `len` and the first step from the back take O(1) for
+    /// each leaf of the range. It fails only if the argument does. A step allocates nothing and
+    /// cannot fail.
     pub fn range_by_argument(
         &self,
         query: <A as SearchArgument<K>>::Query,
@@ -534,12 +592,12 @@ impl<K: Key, V: Drop, A: Argument<K>> BPlusTreeMap<K, V, A> {
         Ok(Iter::new(self.inner.range_by_argument(query, n)?))
     }
 
-    /// The pairs whose key's group equals the group, in the order of their keys. It takes no memory
-    /// but what the groups of keys take, and its steps take none.
+    /// The pairs whose keys are in a group, in the order of their keys.
     ///
-    /// No summary is asked: the group is searched for by the groups of at most 7 keys or separators
-    /// a node, once for its beginning and once for its end. How many pairs there are is told when
-    /// it is asked, by a step for each leaf of it.
+    /// O(log n) to begin: two descents, which compute the groups of at most 7 keys or separators a
+    /// node, and use no summary. O(1) a step. `len` takes O(1) for each leaf of the range. It
+    /// allocates only what the groups of keys allocate, and fails only if one of these fails. A
+    /// step allocates nothing and cannot fail.
     pub fn group_range<G: FromRef<K> + Key>(
         &self,
         group: &G,
@@ -551,10 +609,12 @@ impl<K: Key, V: Drop, A: Argument<K>> BPlusTreeMap<K, V, A> {
         Ok(Iter::new(self.inner.group_range(group)?))
     }
 
-    /// The first `n` pairs of a group, or all where there are fewer, without its first `i`. What it
-    /// takes is the same as of `group_range`, and so is what it costs. There is also a look at the
-    /// summaries of the children before the first pair, where these tell how many keys they stand
-    /// for. Where they don't, the pairs left out are walked over.
+    /// At most `n` pairs of a group, from its pair number `i` on, which counts from 0.
+    ///
+    /// O(log n) to begin if summaries determine how many keys they are of, as those of `Count` and
+    /// `GroupCount` do, and else O(log n + i / 16). O(1) a step, but for the first one from the
+    /// back. It allocates only what the groups of keys allocate, and fails only if one of these
+    /// fails. A step allocates nothing and cannot fail.
     pub fn group_part<G: FromRef<K> + Key>(
         &self,
         group: &G,
@@ -569,14 +629,18 @@ impl<K: Key, V: Drop, A: Argument<K>> BPlusTreeMap<K, V, A> {
     }
 
     /// The tree inside, whose contents are the map's.
+    ///
+    /// O(1). It allocates nothing and cannot fail.
     pub fn tree(&self) -> &BPlusTree<NodeStoreVec<K, V, A>>
         ensures { result.now.contents ≡ self.now }
     {
         &self.inner
     }
 
-    /// The tree inside, for writing: once it is given back, the map has what the tree's contents
-    /// are then.
+    /// The tree of the map, for writing. After the borrow the map has the pairs that the tree has
+    /// then.
+    ///
+    /// O(1). It allocates nothing and cannot fail.
     pub fn tree_mut(&mut self) -> &mut BPlusTree<NodeStoreVec<K, V, A>>
         ensures* writes_back { sem 𝓛 (Lends (map_row K.row V.row A.row K.Key A.Argument) (inner_row K.row V.row A.row K.Key A.Argument) self.entry result (λ tree. tree.contents)) }
         ensures value { result.now.contents ≡ self.old }
@@ -586,16 +650,20 @@ impl<K: Key, V: Drop, A: Argument<K>> BPlusTreeMap<K, V, A> {
 }
 
 impl<K: Key, V: Drop> BPlusTreeMap<K, V, Count> {
-    /// How many keys are not below `lo` and are below `hi`, where they are given. It takes a way
-    /// down for each end that is given, however many pairs stand between, and is never refused.
+    /// The number of keys that are at least `lo` and below `hi`. `None` stands for no bound.
+    ///
+    /// O(log n): one descent for each bound, whatever the number of keys. It allocates nothing and
+    /// cannot fail.
     pub fn range_len<'b>(&self, lo: Option<&'b K>, hi: Option<&'b K>) -> usize
         ensures { result ≡ length (pairs_between K.cmp self.now lo.entry hi.entry) }
     {
         self.inner.range_len(lo, hi)
     }
 
-    /// The place of the key that equals `k` among all keys, from 0 on: the number of smaller keys.
-    /// It is one way down, takes no memory, and is never refused.
+    /// The index of the key that equals `k`, counted from 0, which is the number of smaller keys,
+    /// or `None`.
+    ///
+    /// O(log n). It allocates nothing and cannot fail.
     pub fn place_of(&self, k: &K) -> Option<usize>
         ensures { result ≡ place K.cmp self.now k.now }
     {
@@ -606,8 +674,9 @@ impl<K: Key, V: Drop> BPlusTreeMap<K, V, Count> {
         }
     }
 
-    /// The pair at a place in the order of the keys, from 0 on, or none past the end. It is one way
-    /// down, takes no memory, and is never refused.
+    /// The pair at an index in the order of the keys, counted from 0, or `None` past the last one.
+    ///
+    /// O(log n). It allocates nothing and cannot fail.
     pub fn get_at(&self, i: usize) -> Option<(&K, &V)>
         ensures { option_map deref_pair result ≡ slice_get self.now i }
     {
@@ -617,8 +686,9 @@ impl<K: Key, V: Drop> BPlusTreeMap<K, V, Count> {
         }
     }
 
-    /// The value at a place in the order of the keys, for writing. It is one way down, takes no
-    /// memory, and fails with `NotFound` alone, past the end; then nothing has changed.
+    /// The value at an index in the order of the keys, counted from 0, for writing.
+    ///
+    /// O(log n). It allocates nothing, and fails only with `NotFound`, past the last pair.
     pub fn get_mut_at(&mut self, i: usize) -> Result<&mut V, SelectError>
         ensures* writes_back { sem 𝓛 (LendsSoOk (count_map_row K.row V.row K.Key) V.row self.entry result (λ n w. n ≡ set_value_at self.old i w) (λ n. n ≡ self.old)) }
         ensures value { IfOk result (λ lent. slice_get (values_of self.old) i ≡ Some lent.now) }
@@ -627,11 +697,11 @@ impl<K: Key, V: Drop> BPlusTreeMap<K, V, Count> {
         self.inner.get_mut_by_argument(i)
     }
 
-    /// Removes the pair at a place in the order of the keys, from 0 on, and hands it back; those
-    /// behind it move up by one. Past the end nothing changes, and nothing can be refused.
+    /// Removes the pair at an index in the order of the keys, counted from 0, and returns it, or
+    /// `None` past the last one. The indexes of the pairs behind it become smaller by one.
     ///
-    /// It is one way down by the counts. Each node on the way takes a new count of its child, and a
-    /// leaf's new separator is a clone of a key, which can be refused; then nothing has changed.
+    /// O(log n). It fails only if a clone of a key fails; then the map is unchanged. Past the last
+    /// pair it cannot fail.
     pub fn remove_at(&mut self, i: usize) -> Result<Option<(K, V)>, AllocError>
         ensures ok { IfOk result (λ gone. (gone ≡ slice_get self.old i) × (self.new ≡ remove self.old i)) }
         ensures past { length self.old ≤ i → result ≡ Ok None }
@@ -646,10 +716,10 @@ impl<K: Key, V: Drop> BPlusTreeMap<K, V, Count> {
 }
 
 impl<K: Key, V: Clone + Drop, A: CloneArgument<K>> BPlusTreeMap<K, V, A> {
-    /// A map of its own: equal keys in the same order, and each value what its own clone answers.
+    /// A map of equal keys in the same order, whose values are clones.
     ///
-    /// Each key, value and summary is cloned once. It is refused where a request for memory is, or
-    /// where one of these clones is; what was cloned till then is dropped.
+    /// O(n): each key, value and summary is cloned once. It fails only if an allocation or a clone
+    /// fails; then what was cloned is dropped.
     pub fn clone(&self) -> Result<Self, AllocError>
         ensures { IfOk result (ArePairsCloned K.cmp V.is_clone self.now) }
     {

@@ -1,11 +1,11 @@
-//! Why not all pairs, or keys, were asked whether they stay.
+//! The error of `retain`.
 
-/// Why not all pairs, or keys, were asked whether they stay.
+/// Why `retain` stopped before it had called the closure for every pair or key.
 #[derive(Debug, Drop)]
 pub enum RetainError<X, I> {
-    /// Memory for what is to hold those that stay was refused: nothing has changed.
+    /// The first allocation failed, and nothing has changed.
     NotMade,
-    /// The insertion of one that is to stay was refused: it is handed back, with those behind it,
-    /// which were not asked. Those before it that are to stay are stored.
+    /// An insertion failed. The error has the pair or key that was not inserted, and those for
+    /// which the closure was not called. Those before it that stay are in the map or set.
     NotStored(X, I),
 }

@@ -9,7 +9,7 @@ use bptree_tree::tree::IntoIter;
 use bptree_tree::{BPlusTree, InsertError};
 use std::mem;
 
-// Puts a pair in that stays, or hands it back where that is refused.
+// Puts a pair in that stays, or returns it if that fails.
 fn put_kept<S: NodeStore>(tree: &mut BPlusTree<S>, k: S::K, v: S::V) -> Result<(), (S::K, S::V)>
     ensures ok { IfOk result (λ _. tree.new.contents ≡ put S.K.cmp tree.old.contents k v) }
     ensures err { IfErr result (λ pair. (pair ≡ (k, v)) × (tree.new.contents ≡ tree.old.contents)) }

@@ -1,4 +1,4 @@
-//! The merge of two sources that ascend.
+//! The merge of two ascending sources.
 #![tactic(auto)]
 
 pub mod merge_iter;

@@ -83,6 +83,8 @@ where
     I::Item: Drop,
 {
     /// Neither source is asked for an item yet.
+    ///
+    /// O(1). It allocates nothing and cannot fail.
     pub fn new(a: I, b: I) -> Self
         ensures { result ≡ (I.left a, I.left b) }
     {
@@ -93,6 +95,8 @@ where
     /// they are equal. Where one side has ended the other's items come alone, whatever `cmp`
     /// answers. At the end of both there is none, however often it is asked. One item is asked of
     /// each side that has none waiting, and `cmp` is called at most once.
+    ///
+    /// O(1) beside the steps of the sources and `cmp`. It cannot fail.
     pub fn nexts<Cmp: Fn(&I::Item, &I::Item) -> Ordering>(
         &mut self,
         cmp: Cmp,
@@ -167,6 +171,8 @@ where
 {
     /// How many items are left of each side, with the one that waits. Each count stops at the
     /// greatest `usize`.
+    ///
+    /// O(1) beside the `len` of each source. It cannot fail.
     pub fn lens(&self) -> (usize, usize)
         ensures first { result.0 ≡ min (length self.now.0) (2 ^ 64 - 1) }
         ensures second { result.1 ≡ min (length self.now.1) (2 ^ 64 - 1) }
@@ -201,6 +207,8 @@ where
 /// What all the steps of a merge give: each list whole and in its order, and two keys at once only
 /// where they are equal. Together they give the keys of both lists in their order, where an equal
 /// key of the second list is left out. It does nothing.
+///
+/// O(1). It cannot fail.
 pub fn laws_of_merge<K>()
     ensures steps { MergedIsStepwise K }
     ensures end { (order : K → K → Ordering) → merged order [] [] ≡ [] }

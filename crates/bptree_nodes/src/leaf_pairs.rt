@@ -8,7 +8,7 @@ use std::marker::Model;
 use std::vec;
 
 /// The pairs that are left of a leaf, in the order of their keys. A step from either end moves no
-/// other pair and takes no memory. What is left is dropped with it.
+/// other pair and allocates nothing. What is left is dropped with it.
 #[derive(Drop)]
 pub struct LeafPairs<K, V> {
     keys: vec::IntoIter<K>,
@@ -28,7 +28,7 @@ impl<K, V> Model for LeafPairs<K, V> {
 }
 
 impl<K: Drop, V: Drop> LeafPairs<K, V> {
-    /// No pairs. It takes no memory.
+    /// No pairs. It allocates nothing.
     pub fn new(alloc: Global) -> Self
         ensures { result ≡ [] }
     {

@@ -1,5 +1,5 @@
-//! Tests of what a B+ tree is made of: its numbers, its nodes and their stores, summaries, loading
-//! and merging; tests of shards; and callers of these and of requests.
+//! Tests and proved callers of what is below the tree: numbers, nodes, stores, summaries, loading,
+//! merging, requests and shards.
 #![tactic(auto)]
 
 #[cfg(test)]

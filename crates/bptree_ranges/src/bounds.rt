@@ -33,7 +33,7 @@ pub fn part_between_bounds<S: NodeStore>(
     part_of_places(tree, front, back, len, Extent::Open)
 }
 
-/// The bounds of the keys that are not below `lo` and are below `hi`, where they are given.
+/// The bounds of the keys that are not below `lo` and are below `hi`, if they are given.
 pub(crate) fn bounds_of<'a, K>(lo: Option<&'a K>, hi: Option<&'a K>) -> (Bound<&'a K>, Bound<&'a K>)
     ensures start { bound_copied result.0 ≡ start_bound (option_copied lo.entry) }
     ensures end { bound_copied result.1 ≡ end_bound (option_copied hi.entry) }

@@ -15,7 +15,7 @@ use bptree_stores::node_stores::NodeStore;
 /// How many keys are not below `lo` and are below `hi`, if they are given.
 ///
 /// One descent for each end that is given, of O(height) steps. On each level it adds up the counts
-/// of the children before the one for the end. It takes no memory and cannot fail.
+/// of the children before the one for the end. It allocates nothing and cannot fail.
 pub fn len_between<S: NodeStore<Argument = Count>>(
     tree: &Nodes<S>,
     lo: Option<&S::K>,
@@ -46,7 +46,7 @@ fn count_before<S: NodeStore<Argument = Count>>(
     }
 }
 
-// How many keys are below `hi`: where it is not given, all `len`.
+// How many keys are below `hi`: if it is not given, all `len`.
 fn count_upto<S: NodeStore<Argument = Count>>(
     store: &S,
     root: NodeId,

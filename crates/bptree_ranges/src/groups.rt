@@ -32,7 +32,7 @@ pub fn part_of_group<S: NodeStore, G: FromRef<S::K> + Key>(
     Ok(part_of_places(tree, front, back, len, Extent::Open))
 }
 
-/// So many pairs of a group, or all where there are fewer, without its first `i`.
+/// So many pairs of a group, or all if there are fewer, without its first `i`.
 ///
 /// Two descents, for where the pairs begin and where the group ends. They make the groups of at
 /// most 7 keys or separators of each node. Where the summaries tell how many keys they stand for,

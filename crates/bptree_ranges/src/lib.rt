@@ -1,4 +1,4 @@
-//! Parts of the contents of a tree: where they begin, where they end, and how many pairs they have.
+//! Ranges of the pairs of a tree: their ends, their lengths and their summaries.
 #![tactic(auto)]
 
 pub mod bounds;

@@ -13,7 +13,7 @@ use bptree_shape::nodes::Nodes;
 use bptree_stores::node_stores::NodeStore;
 use std::alloc::AllocError;
 
-/// The pairs whose key is not below `lo` and is below `hi`, where they are given.
+/// The pairs whose key is not below `lo` and is below `hi`, if they are given.
 ///
 /// One descent for each end, and no step from the one to the other. Where `lo` is not below `hi`,
 /// that is told by one comparison.
@@ -28,7 +28,7 @@ pub fn part_between<S: NodeStore>(tree: &Nodes<S>, lo: Option<&S::K>, hi: Option
 /// The positions where the pairs begin and end whose key is not below `lo` and is below `hi`, if
 /// they are given.
 ///
-/// It searches for each end that is given, in O(log n) comparisons. It takes no memory and cannot
+/// It searches for each end that is given, in O(log n) comparisons. It allocates nothing and cannot
 /// fail.
 pub fn places_between<S: NodeStore>(
     tree: &Nodes<S>,
@@ -92,7 +92,7 @@ pub(crate) fn part_of_places<S: NodeStore>(
 
 /// The same position, at a pair: the end of a leaf is the start of the next one, if there is one.
 ///
-/// O(1). It takes no memory and cannot fail.
+/// O(1). It allocates nothing and cannot fail.
 pub fn settled<S: NodeStore>(tree: &Nodes<S>, at: Position) -> Position
     requires { HasPlace S.slots tree.now at }
     ensures { HasSettled S.slots tree.now at result }
@@ -132,8 +132,8 @@ pub(crate) fn end_of_all<S: NodeStore>(tree: &Nodes<S>) -> Position
     Position { leaf, slot }
 }
 
-/// The first `n` pairs, or all where there are fewer, from a place on that is allowed for the
-/// query; none where none is.
+/// The first `n` pairs, or all if there are fewer, from a place on that is allowed for the query;
+/// none if none is.
 ///
 /// One descent for the query, and one to the last leaf.
 pub fn part_by_argument<S: NodeStore>(

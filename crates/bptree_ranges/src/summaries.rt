@@ -19,7 +19,7 @@ use bptree_stores::node_stores::NodeStore;
 use std::alloc::{AllocError, Global};
 use std::cmp::Ordering;
 
-/// A summary of the keys that are not below `lo` and are below `hi`, where they are given.
+/// A summary of the keys that are not below `lo` and are below `hi`, if they are given.
 ///
 /// One descent to the node where the ways to both ends part, and from there one for each end. On
 /// each level the summaries of the children between the two ways are summed up, and at last the
@@ -39,7 +39,7 @@ pub fn summary_between<S: NodeStore>(
     }
 }
 
-// The same where there is such a key, and none where there is none.
+// The same where there is such a key, and none if there is none.
 fn some_between<S: NodeStore>(
     store: &S,
     root: NodeId,
@@ -147,7 +147,7 @@ fn summary_within<S: NodeStore>(
     }
 }
 
-// The keys of a leaf that are not below `lo` and are below `hi`, where they are given.
+// The keys of a leaf that are not below `lo` and are below `hi`, if they are given.
 fn summary_in_leaf<'a, K: Key, V: Drop, A: Argument<K>>(
     leaf: &'a LeafNode<K, V>,
     lo: Option<&'a K>,
@@ -174,7 +174,7 @@ fn start_in<K: Key, V: Drop>(leaf: &LeafNode<K, V>, lo: Option<&K>) -> usize
     }
 }
 
-// How many keys of a leaf are below `hi`: where it is not given, all.
+// How many keys of a leaf are below `hi`: if it is not given, all.
 fn end_in<K: Key, V: Drop>(leaf: &LeafNode<K, V>, hi: Option<&K>) -> usize
     ensures within { result ≤ length leaf.now.pairs }
     ensures below { CountsBelowIn K.cmp leaf.now hi.entry result }

@@ -48,7 +48,7 @@ pub struct Joint<K, A> {
     pub right: A,
 }
 
-// One child of the giver goes to its sibling. It answers the separator that then stands between the
+// One child of the giver goes to its sibling. It returns the separator that then stands between the
 // two.
 fn move_child<K: Drop, A: Drop>(
     giver: Sibling,
@@ -86,8 +86,8 @@ pub(crate) fn joint_of<K: Key, V: Drop, A: Argument<K>>(
     })
 }
 
-/// Puts a separator, and the summaries of the children on both sides, in place of what stands in a
-/// node. It answers that.
+/// Puts a separator, and the summaries of the children on both sides, in place of what is in a
+/// node. It returns that.
 pub(crate) fn exchange_joint<K: Key, A: Argument<K>>(
     node: &mut InnerNode<K, A>,
     slot: usize,
@@ -107,7 +107,7 @@ pub(crate) fn exchange_joint<K: Key, A: Argument<K>>(
     }
 }
 
-/// The same, and asks for the node's summary. It answers that, and what stood there; refused, the
+/// The same, and asks for the node's summary. It returns that, and what stood there; refused, the
 /// node is as it was.
 pub(crate) fn take_joint<K: Key, A: Argument<K>>(
     node: &mut InnerNode<K, A>,
@@ -132,8 +132,8 @@ pub(crate) fn take_joint<K: Key, A: Argument<K>>(
 }
 
 // Asks for the summaries of two inner nodes, and puts them with the separator between the two and
-// the number of the right one into a node without that entry. It answers the node's summary and the
-// left node's old one. Refused, it hands the separator back.
+// the number of the right one into a node without that entry. It returns the node's summary and the
+// left node's old one. Refused, it returns the separator.
 fn ask_inners<K: Key, A: Argument<K>>(
     node: &mut InnerNode<K, A>,
     slot: usize,
@@ -168,7 +168,7 @@ fn ask_inners<K: Key, A: Argument<K>>(
     }
 }
 
-// Asks for the summary of a leaf, and puts it into its node. It answers the node's summary and the
+// Asks for the summary of a leaf, and puts it into its node. It returns the node's summary and the
 // leaf's old one.
 fn ask_leaf<K: Key, V: Drop, A: Argument<K>>(
     node: &mut InnerNode<K, A>,
@@ -207,7 +207,7 @@ fn ask_inner<K: Key, A: Argument<K>>(
     }
 }
 
-/// Merges two leaves into the left one; the right one stays empty. It answers the parent's summary,
+/// Merges two leaves into the left one; the right one stays empty. It returns the parent's summary,
 /// and what stood in the parent; refused, all three are as they were.
 pub(crate) fn merge_leaves<K: Key, V: Drop, A: Argument<K>>(
     node: &mut InnerNode<K, A>,
@@ -271,7 +271,7 @@ pub(crate) fn undo_merge_leaves<K: Key, V: Drop, A: Argument<K>>(
 }
 
 /// Rotates a child from one inner node to its sibling. The separator goes down to the one, and a
-/// key of the other comes up. It answers the parent's summary, and what stood in the parent;
+/// key of the other comes up. It returns the parent's summary, and what stood in the parent;
 /// refused, all three are as they were.
 pub(crate) fn rotate_inners<K: Key, A: Argument<K>>(
     node: &mut InnerNode<K, A>,

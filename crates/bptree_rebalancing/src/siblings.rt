@@ -40,7 +40,7 @@ fn move_pair_at<S: NodeStore>(store: &mut S, giver: Sibling, left: LeafNodeId, r
 }
 
 // Asks for the summaries of two leaves, and for a separator between them, and puts these into the
-// node above. It answers the summary of that node, and what stood there.
+// node above. It returns the summary of that node, and what stood there.
 fn retell_leaves_at<S: NodeStore>(
     store: &mut S,
     id: InnerNodeId,
@@ -62,7 +62,7 @@ fn retell_leaves_at<S: NodeStore>(
     take_joint(store.get_mut_inner(id), slot, joint)
 }
 
-/// Rotates a pair from one leaf to its sibling. It answers the summary of the parent, and what
+/// Rotates a pair from one leaf to its sibling. It returns the summary of the parent, and what
 /// stood there.
 pub(crate) fn rotate_leaves_at<S: NodeStore>(
     store: &mut S,
@@ -111,7 +111,7 @@ pub(crate) fn undo_rotate_leaves_at<S: NodeStore>(
     move_pair_at(store, giver.other(), left, right);
 }
 
-/// Merges two leaves under the number of the left one. It answers the summary of the parent, what
+/// Merges two leaves under the number of the left one. It returns the summary of the parent, what
 /// stood there, and the emptied right leaf, whose number stays reserved.
 pub(crate) fn merge_leaves_at<S: NodeStore>(
     store: &mut S,

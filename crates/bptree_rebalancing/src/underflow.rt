@@ -1,5 +1,5 @@
-//! Underflow in a tree that stands in a store: which sibling a node rotates or merges with, and
-//! inner nodes that are rebalanced up the path.
+//! Underflow in a tree that is in a store: which sibling a node rotates or merges with, and inner
+//! nodes that are rebalanced up the path.
 ghost use Rattle.std.specs.Prelude.{◌≡◌, ◌<◌, ◌≤◌, ◌+◌, IsOk, OnErr, IsTrue};
 ghost use Rattle.bptree_keys.specs.declared.node_id.NodeId.TheVariants as kind;
 ghost use Rattle.bptree_ascent.specs.Failing.{NeverFails};

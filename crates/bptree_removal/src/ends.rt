@@ -1,4 +1,4 @@
-//! Ways down to both ends of a tree that stands in a store.
+//! Descents to both ends of a tree that is in a store.
 ghost use Rattle.std.specs.Prelude.{◌+◌, ◌≤◌, length};
 ghost use Rattle.bptree_keys.specs.Ends.{is_back};
 ghost use Rattle.bptree_shape.specs.Leaves.{IsEndLeaf};

@@ -1,4 +1,4 @@
-//! Removal from a tree that stands in a store.
+//! Removal from a tree of nodes in a store.
 #![tactic(auto)]
 
 pub mod ends;

@@ -1,4 +1,4 @@
-//! Removal from a tree that stands in a store.
+//! Removal from a tree that is in a store.
 ghost use Rattle.std.specs.Prelude.{◌≡◌, false, ◌<◌, ◌≤◌, IfOk, IsOk, OnErr, IfSome, Some, length, slice_get, [], Ok, None};
 ghost use Rattle.std.specs.Option.{is_some};
 ghost use Rattle.bptree_keys.specs.Contents.{has};
@@ -242,10 +242,10 @@ pub fn remove_entry<S: NodeStore>(
 }
 
 /// Removes the pair at an end of a tree, if there is one, and returns it. No key is compared or
-/// cloned on the way down. A leaf that underflows merges with its sibling if that has at most 48
+/// cloned on the descent. A leaf that underflows merges with its sibling if that has at most 48
 /// pairs. So a loop over this call seldom rotates. It takes O(log n) steps, and allocates what
-/// `take_entry` does. If there is no pair, it allocates nothing. If it fails, the tree is unchanged.
-/// `path` is as for `remove_entry`.
+/// `take_entry` does. If there is no pair, it allocates nothing. If it fails, the tree is
+/// unchanged. `path` is as for `remove_entry`.
 pub fn remove_end<S: NodeStore>(
     tree: &mut Nodes<S>,
     path: &mut VisitStack,

@@ -12,14 +12,17 @@ use Rattle.bptree_requests.specs.declared.Request.{Request}
 use Rattle.bptree_requests.specs.declared.Request.TheVariants.{Put, Del, Get, Len, All, First, Last, At, Rank, Next, Prev, Back, Clear, Range, Page}
 use Rattle.bptree_script.specs.Lines.{lines_of}
 
+-- the text of a value, or `none`
 abbrev pub value_text : Option ℕ → List ℕ
 value_text None = codes "none"
 value_text (Some found) = decimal found
 
+-- the reply to a put: `new`, or `old` and the value of before
 abbrev pub old_text : Option ℕ → List ℕ
 old_text None = codes "new"
 old_text (Some old) = codes "old " ++ decimal old
 
+-- the reply to a removal: `none`, or `gone` and the value
 abbrev pub gone_text : Option ℕ → List ℕ
 gone_text None = codes "none"
 gone_text (Some gone) = codes "gone " ++ decimal gone
@@ -32,12 +35,15 @@ del_text pairs key = gone_text (value nat_cmp pairs key)
 abbrev pub has_no_place : List (ℕ × ℕ) → ℕ → Bool
 has_no_place pairs key = (length pairs == 2 ^ 64 - 1) && not (has nat_cmp pairs key)
 
+-- the reply to a put: `full`, or what `old_text` makes of the value at the key
 abbrev pub put_text : List (ℕ × ℕ) → ℕ → List ℕ
 put_text pairs key = if has_no_place pairs key then codes "full" else old_text (value nat_cmp pairs key)
 
+-- the pairs after a put: unchanged if the reply is `full`
 abbrev pub pairs_with_put : List (ℕ × ℕ) → ℕ → ℕ → List (ℕ × ℕ)
 pairs_with_put pairs key new = if has_no_place pairs key then pairs else put nat_cmp pairs key new
 
+-- the text of a pair: the key, a space and the value
 abbrev pub pair_text : ℕ × ℕ → List ℕ
 pair_text pair = decimal pair.0 ++ 32 ∷ decimal pair.1
 

@@ -16,6 +16,8 @@ pub enum ServeError {
 
 impl ServeError {
     /// The exit status of a program that ends so.
+    ///
+    /// O(1). It allocates nothing and cannot fail.
     pub fn status(&self) -> u8
         ensures { result ≡ status_of self.now }
     {
@@ -24,6 +26,8 @@ impl ServeError {
 }
 
 /// The exit status of a program that served so: 0 where all lines were answered.
+///
+/// O(1). It allocates nothing and cannot fail.
 pub fn exit_status(served: &Result<(), ServeError>) -> u8
     ensures ok { IsOk served.now → result ≡ 0 }
     ensures io { IsErrOf served.now ServeError.Io → result ≡ 1 }

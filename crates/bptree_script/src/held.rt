@@ -88,7 +88,7 @@ where
     }
 }
 
-// Moves the cursor of a number to a pair, where there is one, and copies the pair. A refused clone
+// Moves the cursor of a number to a pair, if there is one, and copies the pair. A refused clone
 // leaves the cursor.
 fn move_to<K: Key, V: Copy, R>(
     cursors: &mut Vec<Cursor<K>>,

@@ -100,7 +100,7 @@ fn send_found<W: Write>(out: &mut Output<W>, pair: Option<(&u64, &u64)>) -> Resu
     }
 }
 
-// A pair, after a comma where it is not the first.
+// A pair, after a comma if it is not the first.
 fn send_item<W: Write>(
     out: &mut Output<W>,
     is_first: bool,

@@ -12,8 +12,8 @@ use std::fmt;
 use std::fmt::{Debug, Formatter, Write};
 use std::hash::{Hash, Hasher};
 
-/// Two sets are equal where they have as many keys, and at each place equal ones. It takes no
-/// memory.
+/// Two sets are equal where they have as many keys, and at each place equal ones. It allocates
+/// nothing.
 ///
 /// Where the lengths differ, nothing is compared; else it stops at the first two keys that differ.
 impl<K: Key> PartialEq for BPlusTreeSet<K> {
@@ -30,7 +30,7 @@ impl<K: Key> Eq for BPlusTreeSet<K> {
     ghost laws = { lists_equiv K.Eq.laws };
 }
 
-/// The first two keys that differ decide, and else the lengths do. It takes no memory.
+/// The first two keys that differ decide, and else the lengths do. It allocates nothing.
 impl<K: Key> PartialOrd for BPlusTreeSet<K> {
     ghost partial_cmp = { slice_partial_cmp K.partial_cmp };
 
@@ -41,7 +41,7 @@ impl<K: Key> PartialOrd for BPlusTreeSet<K> {
     }
 }
 
-/// The first two keys that differ decide, and else the lengths do. It takes no memory.
+/// The first two keys that differ decide, and else the lengths do. It allocates nothing.
 impl<K: Key> Ord for BPlusTreeSet<K> {
     ghost cmp = { slice_cmp K.cmp };
 
@@ -56,7 +56,7 @@ impl<K: Key> Ord for BPlusTreeSet<K> {
     }
 }
 
-/// The number of keys is hashed, and then each key. It takes no memory.
+/// The number of keys is hashed, and then each key. It allocates nothing.
 impl<K: Key + Hash> Hash for BPlusTreeSet<K> {
     ghost hash_input = { fed.slice K.hash_input };
 

@@ -66,7 +66,9 @@ impl<K: Key> Model for BPlusTreeSet<K> {
 }
 
 impl<K: Key> BPlusTreeSet<K> {
-    /// A set with no keys. Its one leaf takes memory.
+    /// A set with no keys. Its one leaf allocates.
+    ///
+    /// O(1). It fails only if an allocation fails.
     pub fn new(alloc: Global) -> Result<Self, AllocError>
         ensures { IfOk result (λ set. set ≡ []) }
     {
@@ -76,16 +78,18 @@ impl<K: Key> BPlusTreeSet<K> {
     }
 
     /// The same as `new`.
+    ///
+    /// O(1). It fails only if an allocation fails.
     pub fn default(alloc: Global) -> Result<Self, AllocError>
         ensures { IfOk result (λ set. set ≡ []) }
     {
         BPlusTreeSet::new(alloc)
     }
 
-    /// The keys that an iterator gives, in any order; of equal ones the last stays.
+    /// Makes a set of the keys of an iterator, in any order. Of equal keys the last one is kept.
     ///
-    /// They are held in one vector, which is sorted and then loaded. A refusal for want of memory
-    /// drops the keys.
+    /// O(n log n) for n keys: they are collected in a vector, sorted and loaded. It fails only if
+    /// an allocation or a clone of a key fails; then the keys are dropped.
     pub fn from_iter<I: IntoIterator<Item = K>>(alloc: Global, iter: I) -> Result<Self, AllocError>
         requires { AreFinite I.into_iter_gives I.IntoIter.can_next I.IntoIter.remaining iter }
         ensures { IfOk result (IsSetOf I.into_iter_gives K.cmp I.IntoIter.next_gives iter) }
@@ -101,6 +105,8 @@ impl<K: Key> BPlusTreeSet<K> {
     }
 
     /// The number of keys.
+    ///
+    /// O(1). It allocates nothing and cannot fail.
     pub fn len(&self) -> usize
         ensures value { result ≡ length self.now }
         ensures ascending { IsStrictlySortedBy K.cmp self.now }
@@ -110,6 +116,8 @@ impl<K: Key> BPlusTreeSet<K> {
 
     /// Recalls what holds of every set, for the proofs of callers: the length fits in 64 bits, and the
     /// keys ascend. It does nothing, in constant time, and never fails.
+    ///
+    /// O(1).
     #[inline(always)]
     pub fn recall(&self)
         ensures fits { length self.now < 2 ^ 64 }
@@ -119,17 +127,21 @@ impl<K: Key> BPlusTreeSet<K> {
     }
 
     /// Whether there are no keys.
+    ///
+    /// O(1). It allocates nothing and cannot fail.
     pub fn is_empty(&self) -> bool
         ensures { IsTrue result ↔ (self.now ≡ []) }
     {
         self.map.is_empty()
     }
 
-    /// Puts `k` in, and says whether no key equalled it.
+    /// Inserts `k`, and returns whether no key equals it. If a key equals `k`, that key is kept,
+    /// and `k` is dropped.
     ///
-    /// A key that equals `k` stays, and `k` is dropped: that takes no memory and is never refused.
-    /// A new key can be refused: for want of memory, or in a set of `usize::MAX` keys. Then nothing
-    /// has changed.
+    /// O(log n), amortized over the growth of the store. It allocates if a leaf is full, and fails
+    /// with `OutOfMemory` if an allocation or a clone of a key fails. It fails with `Full` if the
+    /// set has `usize::MAX` keys and `k` is new. Then the set is unchanged, and the error returns
+    /// `k`. If a key equals `k`, it allocates nothing and cannot fail.
     pub fn insert(&mut self, k: K) -> Result<bool, InsertError<K, ()>>
         ensures ok { IfOk result (PutsKey K.cmp k self.old self.new) }
         ensures err { IfErr result (λ r. (pair_of r ≡ (k, tt)) × (self.new ≡ self.old)) }
@@ -139,9 +151,10 @@ impl<K: Key> BPlusTreeSet<K> {
         Ok(self.map.insert(k, ())?.is_none())
     }
 
-    /// Removes the key that equals `k`, and says whether there was one. Where there is none,
-    /// nothing changes and nothing can be refused. The removal of a key can be refused for want of
-    /// memory; then nothing has changed.
+    /// Removes the key that equals `k`, and returns whether there was one.
+    ///
+    /// O(log n). It fails only if a clone of a key fails; then the set is unchanged. If there is no
+    /// such key, it cannot fail.
     pub fn remove(&mut self, k: &K) -> Result<bool, AllocError>
         ensures ok { IfOk result (RemovesKey K.cmp k.now self.old self.new) }
         ensures absent { holds K.cmp self.old k.now ≡ false → result ≡ Ok false }
@@ -151,15 +164,20 @@ impl<K: Key> BPlusTreeSet<K> {
         Ok(self.map.remove(k)?.is_some())
     }
 
-    /// Whether some key equals `k`.
+    /// Whether a key equals `k`.
+    ///
+    /// O(log n). It allocates nothing and cannot fail.
     pub fn contains(&self, k: &K) -> bool
         ensures { result ≡ holds K.cmp self.now k.now }
     {
         self.map.get(k).is_some()
     }
 
-    /// Whether some key equals `k`, and a count of comparisons of keys: at least 1 unless the set
-    /// is empty. That the search makes no comparison that it does not count is tested.
+    /// Whether a key equals `k`, and a count of comparisons of keys: at least 1 unless the set is
+    /// empty. That the search makes no comparison that it does not count is tested.
+    ///
+    /// O(log n), or O(1) if the store has cached the leaf of `k`. It allocates nothing and cannot
+    /// fail.
     pub fn contains_counted(&self, k: &K) -> (bool, usize)
         ensures value { result.0 ≡ holds K.cmp self.now k.now }
         ensures count { AreFewFor (length self.now) result.1 }
@@ -169,8 +187,9 @@ impl<K: Key> BPlusTreeSet<K> {
         (value.is_some(), compares)
     }
 
-    /// The key that equals `k`, as it was put in. It takes no memory, and costs what `contains`
-    /// does.
+    /// The stored key that equals `k`, or `None`.
+    ///
+    /// O(log n). It allocates nothing and cannot fail.
     pub fn get(&self, k: &K) -> Option<&K>
         ensures { option_copied result ≡ key_found K.cmp self.now k.now }
     {
@@ -180,11 +199,10 @@ impl<K: Key> BPlusTreeSet<K> {
         }
     }
 
-    /// Removes the least key, and hands it back: none of an empty set, where nothing can be
-    /// refused.
+    /// Removes the least key, and returns it, or `None` if the set is empty.
     ///
-    /// It is one way down, on which no key is compared. What a removal takes is what `remove`
-    /// takes, and where it is refused nothing has changed.
+    /// O(log n): one descent, which compares no key. It fails only if a clone of a key fails; then
+    /// the set is unchanged. If the set is empty, it cannot fail.
     pub fn pop_first(&mut self) -> Result<Option<K>, AllocError>
         ensures ok { IfOk result (λ gone. TakesFirst (λ key. key) self.old gone self.new) }
         ensures empty { self.old ≡ [] → result ≡ Ok None }
@@ -197,11 +215,10 @@ impl<K: Key> BPlusTreeSet<K> {
         }
     }
 
-    /// Removes the greatest key, and hands it back: none of an empty set, where nothing can be
-    /// refused.
+    /// Removes the greatest key, and returns it, or `None` if the set is empty.
     ///
-    /// It is one way down, on which no key is compared. What a removal takes is what `remove`
-    /// takes, and where it is refused nothing has changed.
+    /// O(log n): one descent, which compares no key. It fails only if a clone of a key fails; then
+    /// the set is unchanged. If the set is empty, it cannot fail.
     pub fn pop_last(&mut self) -> Result<Option<K>, AllocError>
         ensures ok { IfOk result (λ gone. TakesLast (λ key. key) self.old gone self.new) }
         ensures empty { self.old ≡ [] → result ≡ Ok None }
@@ -214,7 +231,10 @@ impl<K: Key> BPlusTreeSet<K> {
         }
     }
 
-    /// Removes all keys. The new leaf takes memory; where that is refused, nothing has changed.
+    /// Removes all keys.
+    ///
+    /// O(n) to drop them. It allocates one leaf, and fails only if that fails; then the set is
+    /// unchanged.
     pub fn clear(&mut self) -> Result<(), AllocError>
         ensures ok { IfOk result (λ _. self.new ≡ []) }
         ensures err { OnErr result (self.new ≡ self.old) }
@@ -223,6 +243,8 @@ impl<K: Key> BPlusTreeSet<K> {
     }
 
     /// The least key.
+    ///
+    /// O(log n). It allocates nothing and cannot fail.
     pub fn first(&self) -> Option<&K>
         ensures { option_copied result ≡ slice_get self.now 0 }
     {
@@ -231,6 +253,8 @@ impl<K: Key> BPlusTreeSet<K> {
     }
 
     /// The greatest key.
+    ///
+    /// O(log n). It allocates nothing and cannot fail.
     pub fn last(&self) -> Option<&K>
         ensures { option_copied result ≡ last_member self.now }
     {
@@ -238,7 +262,9 @@ impl<K: Key> BPlusTreeSet<K> {
         Some(key)
     }
 
-    /// The keys in their order. It takes no memory, and neither do its steps.
+    /// An iterator over the keys in their order, from both ends.
+    ///
+    /// O(log n) to begin, and O(1) a step. Neither it nor a step allocates or fails.
     pub fn iter(&self) -> Iter<'_, K>
         ensures rest { result ≡ self.now }
         ensures ascending { IsStrictlySortedBy K.cmp self.now }
@@ -247,11 +273,10 @@ impl<K: Key> BPlusTreeSet<K> {
         self.map.keys()
     }
 
-    /// The keys that are not below `lo` and are below `hi`, where they are given, in their order.
-    /// It takes no memory, and neither do its steps.
+    /// The keys that are at least `lo` and below `hi`, in their order. `None` stands for no bound.
     ///
-    /// Each end that is given is searched for once. How many keys there are is told when it is
-    /// asked, by a step for each leaf between.
+    /// O(log n) to begin: one descent for each bound, whatever the number of keys. O(1) a step.
+    /// `len` takes O(1) for each leaf of the range. Neither it nor a step allocates or fails.
     pub fn range<'b>(&self, lo: Option<&'b K>, hi: Option<&'b K>) -> Iter<'_, K>
         ensures rest { result ≡ keys_between K.cmp self.now (given lo.entry) (given hi.entry) }
         ensures ascending { IsStrictlySortedBy K.cmp result }
@@ -260,7 +285,9 @@ impl<K: Key> BPlusTreeSet<K> {
         Keys::new(self.map.range(lo, hi))
     }
 
-    /// The keys in their order, each handed over. It takes no memory, and neither do its steps.
+    /// An iterator that moves the keys out, in their order.
+    ///
+    /// O(log n) to begin, and O(1) a step. Neither it nor a step allocates or fails.
     pub fn into_iter(self) -> IntoIter<K>
         ensures rest { result ≡ self }
         ensures ascending { IsStrictlySortedBy K.cmp self }
@@ -270,8 +297,10 @@ impl<K: Key> BPlusTreeSet<K> {
         self.map.into_keys()
     }
 
-    /// The keys of both sets in their order; of two equal keys that of this set. It takes no
-    /// memory, and neither do its steps.
+    /// An iterator over the keys of both sets in their order. Of two equal keys it returns that of
+    /// this set.
+    ///
+    /// All steps take O(n + m) for n and m keys. Neither it nor a step allocates or fails.
     pub fn union<'a>(&'a self, other: &'a Self) -> Union<'a, K>
         ensures { result ≡ (self.now, other.now) }
     {
@@ -280,11 +309,10 @@ impl<K: Key> BPlusTreeSet<K> {
         Union::new(self.iter(), other.iter())
     }
 
-    /// The keys of this set that no key of the other equals, in their order. It takes no memory,
-    /// and neither do its steps.
+    /// An iterator over the keys of this set that no key of the other set equals, in their order.
     ///
-    /// Both sets are walked side by side, with a comparison for each key of either. Where this set
-    /// has at most a sixteenth of the other's keys, each of its keys is looked up in the other.
+    /// All steps take O(n + m) for n keys here and m in the other set. If n is at most m / 16, each
+    /// key is looked up in the other set, in O(n log m). Neither it nor a step allocates or fails.
     pub fn difference<'a>(&'a self, other: &'a Self) -> Difference<'a, K>
         ensures rest { result ≡ (self.now, other.now) }
         ensures ascending { IsStrictlySortedBy K.cmp (keys_without K.cmp self.now other.now) }
@@ -293,11 +321,11 @@ impl<K: Key> BPlusTreeSet<K> {
         Sifted::new(self, other)
     }
 
-    /// The keys of this set that a key of the other equals, in their order. It takes no memory, and
-    /// neither do its steps.
+    /// An iterator over the keys of this set that a key of the other set equals, in their order.
     ///
-    /// Both sets are walked side by side, with a comparison for each key of either. Where one has
-    /// at most a sixteenth of the other's keys, each of its keys is looked up in the other.
+    /// All steps take O(n + m) for n and m keys. If one set has at most a sixteenth of the other's
+    /// keys, each of its keys is looked up in the other, in O(n log m). Neither it nor a step
+    /// allocates or fails.
     pub fn intersection<'a>(&'a self, other: &'a Self) -> Intersection<'a, K>
         ensures rest { result ≡ (self.now, other.now) }
         ensures ascending { IsStrictlySortedBy K.cmp (keys_within K.cmp self.now other.now) }
@@ -309,8 +337,9 @@ impl<K: Key> BPlusTreeSet<K> {
         Sifted::new(self, other)
     }
 
-    /// The keys of both sets in their order, without those that are in both. It takes no memory,
-    /// and neither do its steps: to give all takes at most as many comparisons as there are keys.
+    /// An iterator over the keys of both sets in their order, without those that are in both.
+    ///
+    /// All steps take O(n + m) for n and m keys. Neither it nor a step allocates or fails.
     pub fn symmetric_difference<'a>(&'a self, other: &'a Self) -> SymmetricDifference<'a, K>
         ensures { result ≡ (self.now, other.now) }
     {
@@ -319,10 +348,10 @@ impl<K: Key> BPlusTreeSet<K> {
         SymmetricDifference::new(self.iter(), other.iter())
     }
 
-    /// Whether each key of this set equals one of the other. It takes no memory.
+    /// Whether each key of this set equals one of the other set.
     ///
-    /// Where this set has more keys it is told without a comparison. Else it costs what
-    /// `difference` costs up to the first key that the other lacks.
+    /// O(1) if this set has more keys. Else at most what all steps of `difference` take. It
+    /// allocates nothing and cannot fail.
     pub fn is_subset(&self, other: &Self) -> bool
         ensures { IsTrue result ↔ IsSubset K.cmp self.now other.now }
     {
@@ -333,14 +362,18 @@ impl<K: Key> BPlusTreeSet<K> {
     }
 
     /// Whether each key of the other set equals one of this. It costs what `is_subset` costs.
+    ///
+    /// O(n + m) at most for n and m keys. It cannot fail.
     pub fn is_superset(&self, other: &Self) -> bool
         ensures { IsTrue result ↔ IsSubset K.cmp other.now self.now }
     {
         other.is_subset(self)
     }
 
-    /// Whether no key of this set equals one of the other. It takes no memory, and costs what
+    /// Whether no key of this set equals one of the other. It allocates nothing, and costs what
     /// `intersection` costs up to the first key that both have.
+    ///
+    /// O(n + m) at most for n and m keys. It cannot fail.
     pub fn is_disjoint(&self, other: &Self) -> bool
         ensures { IsTrue result ↔ IsDisjoint K.cmp self.now other.now }
     {
@@ -348,14 +381,18 @@ impl<K: Key> BPlusTreeSet<K> {
     }
 
     /// The tree inside, whose keys are the set's.
+    ///
+    /// O(1). It allocates nothing and cannot fail.
     pub fn tree(&self) -> &BPlusTree<NodeStoreVec<K, ()>>
         ensures { keys_of result.now.contents ≡ self.now }
     {
         self.map.tree()
     }
 
-    /// The tree inside, for writing: once it is given back, the set has the keys of what the tree's
-    /// contents are then.
+    /// The tree of the set, for writing. After the borrow the set has the keys that the tree has
+    /// then.
+    ///
+    /// O(1). It allocates nothing and cannot fail.
     pub fn tree_mut(&mut self) -> &mut BPlusTree<NodeStoreVec<K, ()>>
         ensures* writes_back { sem 𝓛 (Lends (set_row K.row K.Key) (inner_row_of_set K.row K.Key) self.entry result (λ tree. keys_of tree.contents)) }
         ensures value { keys_of result.now.contents ≡ self.old }
@@ -376,9 +413,9 @@ impl<K: Key> IntoIterator for BPlusTreeSet<K> {
     }
 }
 
-/// The keys of a set that are left, in their order. No step takes memory.
+/// The keys of a set that are left, in their order. No step allocates.
 pub type Iter<'a, K> = Keys<'a, K, (), ()>;
 
-/// The keys of an owned set that are left, in their order. No step takes memory, and none is
-/// refused; what is left is dropped with it.
+/// The keys of an owned set that are left, in their order. No step allocates, and none is refused;
+/// what is left is dropped with it.
 pub type IntoIter<K> = IntoKeys<K, (), ()>;

@@ -1,4 +1,4 @@
-//! Ways down a tree that stands in a store.
+//! Descents a tree that is in a store.
 ghost use Rattle.std.specs.Prelude.{◌≡◌, ◌+◌, ◌-◌, ◌*◌, ◌≤◌, cond, length};
 ghost use Rattle.bptree_keys.specs.declared.node_id.LeafNodeId.{LeafNodeId};
 ghost use Rattle.bptree_keys.specs.Ends.{is_back};

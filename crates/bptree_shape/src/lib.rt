@@ -1,4 +1,4 @@
-//! The shape of a B+ tree of nodes in a store, ways down it to a key and to both ends, and reads at
+//! The invariant of a tree of nodes in a store, descents to a key and to both ends, and reads at
 //! their end.
 #![tactic(auto)]
 

@@ -36,8 +36,8 @@ impl<S: NodeStore> Nodes<S> {
     /// Finds the leaf that a key belongs to, with a hint for a search of that leaf. Counts its
     /// comparisons.
     ///
-    /// O(1) if the store has cached that leaf, else O(log n): one descent from the root, and the store
-    /// then caches the leaf. It takes no memory and cannot fail.
+    /// O(1) if the store has cached that leaf, else O(log n): one descent from the root, and the
+    /// store then caches the leaf. It allocates nothing and cannot fail.
     #[inline(always)]
     pub fn leaf_for(&self, key: &S::K, compares: &mut Compares) -> (LeafNodeId, SearchHint)
         ensures leaf { LeadsTo S.slots self.now S.K.cmp key.now result.0 }
@@ -54,7 +54,8 @@ impl<S: NodeStore> Nodes<S> {
 
     /// The value at a key, if the key is there. Counts its comparisons.
     ///
-    /// It costs what `leaf_for` does, and one search of the leaf. It takes no memory and cannot fail.
+    /// It costs what `leaf_for` does, and one search of the leaf. It allocates nothing and cannot
+    /// fail.
     #[inline(always)]
     pub fn get<'a>(&'a self, key: &S::K, compares: &mut Compares) -> Option<&'a S::V>
         ensures value { option_copied result ≡ value S.K.cmp self.now.contents key.now }

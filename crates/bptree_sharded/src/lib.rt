@@ -1,4 +1,4 @@
-//! One ordered map over shards: what a shard answers, and the whole, which is one ascending list.
+//! One ordered map over shards, which is one ascending list.
 #![tactic(auto)]
 
 pub mod map_shard;

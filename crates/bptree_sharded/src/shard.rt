@@ -88,7 +88,7 @@ pub trait Shard: Drop {
     ) -> Result<(), AllocError>
         ensures { PushesAll (part (pairs self.now) from count) found.old found.new result };
 
-    /// At most `n` of the pairs whose keys are not below `lo` and are below `hi`, where they are
+    /// At most `n` of the pairs whose keys are not below `lo` and are below `hi`, if they are
     /// given, are put behind those of a vector, the least first.
     fn range<'a, 'b>(
         &'a self,

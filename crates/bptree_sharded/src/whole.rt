@@ -1,4 +1,4 @@
-//! The whole over several shards, which answers as one map.
+//! The whole over several shards, which returns as one map.
 ghost use Rattle.std.specs.Prelude.{◌≡◌, ◌+◌, ◌^◌, ◌<◌, ◌≤◌, List, length, vec_len, vec_capacity, map, take, insert, slice_get, true, false, Ok, None, if◌then◌else◌, IfOk, IfErr, OnOk, OnErr, IsOk, IsTrue};
 ghost use Rattle.std.specs.List.{sum};
 ghost use Rattle.std.specs.Option.{option_copied, option_map};
@@ -301,7 +301,7 @@ impl<S: Shard> Shards<S> {
         Ok(found)
     }
 
-    /// At most `n` of the pairs whose keys are not below `lo` and are below `hi`, where they are
+    /// At most `n` of the pairs whose keys are not below `lo` and are below `hi`, if they are
     /// given, the least first. Of the shards that may have one, as many are asked as it takes, and
     /// none that has no pair.
     pub fn range<'b>(

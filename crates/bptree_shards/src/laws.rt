@@ -38,7 +38,7 @@ pub fn laws_of_ranges<K: Key, V>()
     ensures inner { InnerShardsAreWhole K.cmp V }
 {}
 
-/// Shards with no pair are shards at any bounds, where there is one more of them than there are
+/// Shards with no pair are shards at any bounds, if there is one more of them than there are
 /// bounds.
 pub fn law_of_empty_shards<K: Key, V>()
     ensures { EmptyShardsStand K.cmp V }

@@ -1,5 +1,5 @@
-//! One ordered list over shards: which shard a call goes to, and how the answers of shards make the
-//! answer of the whole.
+//! One ordered list over shards: which shard a call goes to, and how the results of shards make the
+//! result of the whole.
 #![tactic(auto)]
 
 pub mod combining;

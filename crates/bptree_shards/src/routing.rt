@@ -49,8 +49,8 @@ pub fn route_below<K: Key>(bounds: &[K], k: &K) -> usize
 }
 
 /// The numbers of the first shard and of the last one that may have pairs between two keys: from
-/// `lo` on, and below `hi`, where they are given. No shard may have one where the first is behind
-/// the last.
+/// `lo` on, and below `hi`, if they are given. No shard may have one where the first is behind the
+/// last.
 pub fn route_range<K: Key>(bounds: &[K], lo: Option<&K>, hi: Option<&K>) -> (usize, usize)
     ensures first { result.0 ≡ first_shard K.cmp bounds.now (option_copied lo.entry) }
     ensures last { result.1 ≡ last_shard K.cmp bounds.now (option_copied hi.entry) }

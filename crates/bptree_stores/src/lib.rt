@@ -1,4 +1,4 @@
-//! Where a B+ tree keeps its nodes: a store, and one over slabs.
+//! The law of stores, which hold the nodes of a tree, and a store over slabs.
 #![tactic(auto)]
 
 mod emptied;

@@ -25,15 +25,15 @@ fn is_vacant<H>(places: &Slab<Place<H>>) -> bool
 }
 
 /// Nodes under the numbers of two slabs: inner nodes in boxes, and leaves beside the emptied memory
-/// of theirs. A released number is given out again, the last released first; where none is left of
+/// of theirs. A released number is given out again, the last released first; if none is left of
 /// these, the next number is the least one that was never given out. So each number is less than
 /// the most that were taken at a time, and a remembered number can stand for another leaf than it
 /// did.
 ///
-/// A new number takes amortised constant time, moves no key and no value, and takes no memory where
-/// a released one is left. A clone copies every node; `try_cache` compares the key with at most two
-/// others. Each other call takes constant time. A store that is dropped drops each node that is
-/// present.
+/// A new number takes amortised constant time, moves no key and no value, and allocates nothing
+/// where a released one is left. A clone copies every node; `try_cache` compares the key with at
+/// most two others. Each other call takes constant time. A store that is dropped drops each node
+/// that is present.
 #[derive(Drop)]
 pub struct NodeStoreVec<K: Key, V, A: Argument<K> = ()> {
     inner_nodes: Slab<Place<Box<InnerNode<K, A>>>>,
@@ -48,7 +48,9 @@ pub struct NodeStoreVec<K: Key, V, A: Argument<K> = ()> {
 impl<K: Key, V: Drop, A: Argument<K>> NodeStoreVec<K, V, A> {
     ghost use Rattle.bptree_stores.specs.StoreSlabs.{slots};
 
-    /// A store with no node and no number held. It takes no memory now.
+    /// A store with no node and no number held. It allocates nothing now.
+    ///
+    /// O(1). It allocates nothing and cannot fail.
     pub fn new(alloc: Global) -> Self
         ensures { IsEmpty (slots result) }
     {
@@ -56,6 +58,8 @@ impl<K: Key, V: Drop, A: Argument<K>> NodeStoreVec<K, V, A> {
     }
 
     /// The same, with room for so many numbers of each kind before more memory is taken.
+    ///
+    /// O(1), and at most two allocations. It fails only if one of these fails.
     pub fn with_capacity(alloc: Global, capacity: usize) -> Result<Self, AllocError>
         ensures { IfOk result (λ store. IsEmpty (slots store)) }
     {
@@ -228,7 +232,7 @@ impl<K: Key, V: Clone, A: Argument<K>> Clone for NodeStoreVec<K, V, A> {
     ghost is_clone = { IsStoreClone K.is_clone V.is_clone A.is_clone };
 
     /// A store of clones, which remembers the same hint and gives out the released numbers in the
-    /// same order. A refusal drops the clones made so far.
+    /// same order. A failure drops the clones made so far.
     fn clone(&self) -> Result<Self, AllocError> {
         Ok(NodeStoreVec {
             inner_nodes: self.inner_nodes.clone()?,

@@ -11,7 +11,7 @@ use bptree_keys::node_id::Position;
 use bptree_stores::node_stores::NodeStore;
 use std::alloc::AllocError;
 
-/// A key, which need not be in any tree: each call names the tree that it asks, and answers by the
+/// A key, which need not be in any tree: each call names the tree that it asks, and returns by the
 /// key alone.
 ///
 /// A cursor remembers where its key stood. Each use tests that place, so that it may be wrong, and
@@ -36,6 +36,8 @@ impl<K: Key> Cursor<K> {
     }
 
     /// The key that the cursor stands on.
+    ///
+    /// O(1). It allocates nothing and cannot fail.
     pub fn key(&self) -> &K
         ensures { result.now ≡ cursor_key self.now }
     {
@@ -44,6 +46,8 @@ impl<K: Key> Cursor<K> {
 
     /// A cursor on the least key of a tree, and the value there. It takes what a clone of the key
     /// takes, and of an empty tree nothing.
+    ///
+    /// O(log n). It fails only if the clone of the key fails.
     pub fn first<'t, S: NodeStore<K = K>>(
         tree: &'t BPlusTree<S>,
     ) -> Result<Option<(Self, &'t S::V)>, AllocError>
@@ -57,6 +61,8 @@ impl<K: Key> Cursor<K> {
 
     /// A cursor on the greatest key of a tree, and the value there. It takes what a clone of the
     /// key takes, and of an empty tree nothing.
+    ///
+    /// O(log n). It fails only if the clone of the key fails.
     pub fn last<'t, S: NodeStore<K = K>>(
         tree: &'t BPlusTree<S>,
     ) -> Result<Option<(Self, &'t S::V)>, AllocError>
@@ -68,8 +74,11 @@ impl<K: Key> Cursor<K> {
         tree.cursor_at_last()
     }
 
-    /// A cursor on the least greater key, where there is one. It takes what a clone of that key
-    /// takes, and where there is none it takes nothing.
+    /// A cursor on the least greater key, if there is one. It takes what a clone of that key takes,
+    /// and if there is none it takes nothing.
+    ///
+    /// O(1) if the key's place is still in the leaf that the cursor remembers, else O(log n). It
+    /// fails only if the clone of the key fails.
     pub fn next<S: NodeStore<K = K>>(&self, tree: &BPlusTree<S>) -> Result<Option<Self>, AllocError>
         ensures cursor { IfOk result (StandsAfter K.cmp tree.now.contents self.now) }
         ensures end { pair_after K.cmp tree.now.contents self.now ≡ None → result ≡ Ok None }
@@ -81,8 +90,11 @@ impl<K: Key> Cursor<K> {
         }
     }
 
-    /// A cursor on the greatest smaller key, where there is one. It takes what a clone of that key
-    /// takes, and where there is none it takes nothing.
+    /// A cursor on the greatest smaller key, if there is one. It takes what a clone of that key
+    /// takes, and if there is none it takes nothing.
+    ///
+    /// O(1) if the key's place is still in the leaf that the cursor remembers, else O(log n). It
+    /// fails only if the clone of the key fails.
     pub fn prev<S: NodeStore<K = K>>(&self, tree: &BPlusTree<S>) -> Result<Option<Self>, AllocError>
         ensures cursor { IfOk result (StandsBefore K.cmp tree.now.contents self.now) }
         ensures end { pair_before K.cmp tree.now.contents self.now ≡ None → result ≡ Ok None }
@@ -95,6 +107,9 @@ impl<K: Key> Cursor<K> {
     }
 
     /// As `next`, with the value there.
+    ///
+    /// O(1) if the key's place is still in the leaf that the cursor remembers, else O(log n). It
+    /// fails only if the clone of the key fails.
     pub fn next_with_value<'t, S: NodeStore<K = K>>(
         &self,
         tree: &'t BPlusTree<S>,
@@ -108,6 +123,9 @@ impl<K: Key> Cursor<K> {
     }
 
     /// As `prev`, with the value there.
+    ///
+    /// O(1) if the key's place is still in the leaf that the cursor remembers, else O(log n). It
+    /// fails only if the clone of the key fails.
     pub fn prev_with_value<'t, S: NodeStore<K = K>>(
         &self,
         tree: &'t BPlusTree<S>,
@@ -120,15 +138,21 @@ impl<K: Key> Cursor<K> {
         tree.cursor_before(self.place, &self.key)
     }
 
-    /// Whether a key of the tree equals the cursor's. It takes no memory.
+    /// Whether a key of the tree equals the cursor's. It allocates nothing.
+    ///
+    /// O(1) if the key's place is still in the leaf that the cursor remembers, else O(log n). It
+    /// cannot fail.
     pub fn exists<S: NodeStore<K = K>>(&self, tree: &BPlusTree<S>) -> bool
         ensures { result ≡ has K.cmp tree.now.contents (cursor_key self.now) }
     {
         self.value(tree).is_some()
     }
 
-    /// The value at the key of the tree that equals the cursor's, where one does. It takes no
-    /// memory.
+    /// The value at the key of the tree that equals the cursor's, if one does. It allocates
+    /// nothing.
+    ///
+    /// O(1) if the key's place is still in the leaf that the cursor remembers, else O(log n). It
+    /// cannot fail.
     pub fn value<'t, S: NodeStore<K = K>>(&self, tree: &'t BPlusTree<S>) -> Option<&'t S::V>
         ensures { option_copied result ≡ value K.cmp tree.now.contents (cursor_key self.now) }
     {

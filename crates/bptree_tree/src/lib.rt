@@ -1,4 +1,4 @@
-//! An ordered map in memory that is one strictly ascending list of pairs, kept in a B+ tree over a
+//! An ordered map in memory, which is one strictly ascending list of pairs, as a B+ tree over a
 //! store of nodes.
 #![tactic(auto)]
 
@@ -11,7 +11,7 @@ pub use bptree_rebalancing::statistics::Statistic;
 pub use cursor::Cursor;
 pub use tree::BPlusTree;
 
-/// Why a pair was not stored. It hands key and value back.
+/// Why a pair was not stored. It returns key and value.
 #[derive(Debug, Drop)]
 pub enum InsertError<K, V> {
     /// A request for memory was refused.

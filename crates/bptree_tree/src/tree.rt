@@ -72,7 +72,9 @@ impl<S: NodeStore> BPlusTree<S> {
         }
     }
 
-    /// A tree with no pairs. Its one leaf takes memory.
+    /// A tree with no pairs. Its one leaf allocates.
+    ///
+    /// O(1), but for the growth of the store. It fails only if an allocation fails.
     pub fn new(mut store: S) -> Result<Self, AllocError>
         requires { IsEmpty (S.slots store) }
         ensures empty { IfOk result (λ tree. tree.contents ≡ []) }
@@ -90,6 +92,8 @@ impl<S: NodeStore> BPlusTree<S> {
     }
 
     /// The number of pairs.
+    ///
+    /// O(1). It allocates nothing and cannot fail.
     pub fn len(&self) -> usize
         ensures value { result ≡ length self.now.contents }
         ensures ascending { IsAscending S.K.cmp self.now.contents }
@@ -99,6 +103,8 @@ impl<S: NodeStore> BPlusTree<S> {
 
     /// Recalls what holds of every tree, for the proofs of callers: the length fits in 64 bits, and the
     /// keys ascend. It does nothing, in constant time, and never fails.
+    ///
+    /// O(1).
     #[inline(always)]
     pub fn recall(&self)
         ensures fits { length self.now.contents < 2 ^ 64 }
@@ -108,13 +114,17 @@ impl<S: NodeStore> BPlusTree<S> {
     }
 
     /// Whether there are no pairs.
+    ///
+    /// O(1). It allocates nothing and cannot fail.
     pub fn is_empty(&self) -> bool
         ensures { IsTrue result ↔ (self.now.contents ≡ []) }
     {
         self.nodes.len() == 0
     }
 
-    /// The value at a key equal to `k`.
+    /// The value at the key that equals `k`, or `None`.
+    ///
+    /// O(log n). It allocates nothing and cannot fail.
     pub fn get(&self, k: &S::K) -> Option<&S::V>
         ensures { option_copied result ≡ value S.K.cmp self.now.contents k.now }
     {
@@ -123,6 +133,9 @@ impl<S: NodeStore> BPlusTree<S> {
 
     /// The value at a key equal to `k`, and a count of comparisons of keys: at least 1 unless the
     /// tree is empty. That the search makes no comparison that it does not count is tested.
+    ///
+    /// O(log n), or O(1) if the store has cached the leaf of `k`. It allocates nothing and cannot
+    /// fail.
     pub fn get_counted(&self, k: &S::K) -> (Option<&S::V>, usize)
         ensures value { option_copied result.0 ≡ value S.K.cmp self.now.contents k.now }
         ensures count { result.1 ≤ 7 * (self.now.height + 1) + S.HINT_COMPARES }
@@ -134,6 +147,8 @@ impl<S: NodeStore> BPlusTree<S> {
     }
 
     /// The pair with the least key.
+    ///
+    /// O(log n). It allocates nothing and cannot fail.
     pub fn first(&self) -> Option<(&S::K, &S::V)>
         ensures { option_map deref_pair result ≡ slice_get self.now.contents 0 }
     {
@@ -141,13 +156,17 @@ impl<S: NodeStore> BPlusTree<S> {
     }
 
     /// The pair with the greatest key.
+    ///
+    /// O(log n). It allocates nothing and cannot fail.
     pub fn last(&self) -> Option<(&S::K, &S::V)>
         ensures { option_map deref_pair result ≡ last_member self.now.contents }
     {
         self.nodes.last()
     }
 
-    /// The pairs in the order of their keys. It takes no memory, and neither do its steps.
+    /// An iterator over the pairs in the order of their keys, from both ends.
+    ///
+    /// O(log n) to begin, and O(1) a step. Neither it nor a step allocates or fails.
     pub fn iter(&self) -> Iter<'_, S>
         ensures rest { result ≡ self.now.contents }
         ensures ascending { IsAscending S.K.cmp self.now.contents }
@@ -172,14 +191,14 @@ impl<S: NodeStore> BPlusTree<S> {
         Iter::new(&nodes.store, part)
     }
 
-    /// Puts `v` at `k`, and hands back the value that was there.
+    /// Inserts `v` at `k`, and returns the value that was at `k` before. If a key equals `k`, that
+    /// key is kept and only its value is replaced.
     ///
-    /// A key that equals `k` stays, and its value alone is replaced: that takes no memory and is
-    /// never refused. A new key takes memory where a leaf is full. It takes some for one node on
-    /// each level that is split, for a new root where the root is, for the places of their numbers
-    /// in the store, and for a clone of one key. It takes some too where a summary does. Each node
-    /// on the way to its leaf takes a new summary of its child. A pair with a new key can be
-    /// refused: for want of memory, or in a tree of `usize::MAX` pairs. Then nothing has changed.
+    /// O(log n), amortized over the growth of the store. It allocates a node for each full node on
+    /// the path, and a new root if the root is full. It fails with `OutOfMemory` if an allocation,
+    /// a clone of a key or a summary fails, and with `Full` if the tree has `usize::MAX` pairs and
+    /// `k` is new. Then the tree is unchanged, node by node, and the error returns `k` and `v`. If
+    /// a key equals `k`, it allocates nothing and cannot fail.
     pub fn insert(&mut self, k: S::K, v: S::V) -> Result<Option<S::V>, InsertError<S::K, S::V>>
         ensures ok { IfOk result (Puts S.K.cmp k v self.old.contents self.new.contents) }
         ensures err { IfErr result (HandsBack (k, v) self.old.contents self.new.contents) }
@@ -197,12 +216,12 @@ impl<S: NodeStore> BPlusTree<S> {
         }
     }
 
-    /// Removes the pair whose key equals `k`, and hands back its value. Where no key does, nothing
-    /// changes and nothing can be refused.
+    /// Removes the pair whose key equals `k`, and returns its value, or `None` if there is no such
+    /// key.
     ///
-    /// Each node on the way to its leaf takes a new summary of its child, and a leaf's new
-    /// separator is a clone of a key: both may take memory. Then a removal can be refused, and
-    /// nothing has changed.
+    /// O(log n). Each node on the path gets a new summary, and the clone of a key can become a
+    /// separator. It fails only if one of these fails; then the tree is unchanged, node by node. If
+    /// there is no such key, it cannot fail.
     pub fn remove(&mut self, k: &S::K) -> Result<Option<S::V>, AllocError>
         ensures ok { IfOk result (Removes S.K.cmp k.now self.old.contents self.new.contents) }
         ensures absent { has S.K.cmp self.old.contents k.now ≡ false → result ≡ Ok None }
@@ -222,6 +241,8 @@ impl<S: NodeStore> BPlusTree<S> {
     }
 
     /// A summary of all keys; of no keys what `Default` makes.
+    ///
+    /// O(1). It allocates nothing and cannot fail.
     pub fn root_argument(&self) -> &S::Argument
         ensures value { result.now ≡ self.now.root_argument }
         ensures summary { S.Argument.is_summary result.now (keys_of self.now.contents) }
@@ -232,11 +253,15 @@ impl<S: NodeStore> BPlusTree<S> {
 
     /// How often nodes that underflowed were rebalanced. A tree that is new, or was just cleared,
     /// has counted nothing.
+    ///
+    /// O(1). It allocates nothing and cannot fail.
     pub fn statistic(&self) -> &Statistic {
         &self.statistic
     }
 
     /// The store that holds the nodes: they are those of this tree, and no others.
+    ///
+    /// O(1). It allocates nothing and cannot fail.
     pub fn node_store(&self) -> &S
         ensures value { result.now ≡ self.now.store }
         ensures shape { HasShape S.slots S.K.cmp S.Argument.is_summary self.now }
@@ -247,6 +272,8 @@ impl<S: NodeStore> BPlusTree<S> {
     }
 
     /// The nodes, with the store that holds them, for reads of many keys at once. O(1).
+    ///
+    /// It cannot fail.
     pub fn nodes(&self) -> &Nodes<S>
         ensures { result.now ≡ self.now }
     {
@@ -254,6 +281,8 @@ impl<S: NodeStore> BPlusTree<S> {
     }
 
     /// The number of the root.
+    ///
+    /// O(1). It allocates nothing and cannot fail.
     pub fn root_id(&self) -> NodeId
         ensures { result ≡ self.now.root }
     {
@@ -262,6 +291,8 @@ impl<S: NodeStore> BPlusTree<S> {
     }
 
     /// The number of levels of inner nodes.
+    ///
+    /// O(1). It allocates nothing and cannot fail.
     pub fn height(&self) -> usize
         ensures value { result ≡ self.now.height }
         ensures levels { result ≤ 15 }
@@ -279,7 +310,9 @@ impl<S: NodeStore> BPlusTree<S> {
     ghost use Rattle.bptree_keys.specs.Contents.{value};
     ghost use Rattle.bptree_tree.specs.Rows.{lends_written};
 
-    /// The value at a key equal to `k`, for writing.
+    /// The value at the key that equals `k`, for writing, or `None`.
+    ///
+    /// O(log n). It allocates nothing and cannot fail.
     pub fn get_mut(&mut self, k: &S::K) -> Option<&mut S::V>
         ensures* writes_back { sem 𝓛 (lends_written S.row S.K.row S.V.row S.Argument.row S.NodeStore S.K.Key S.Argument.Argument self.entry k.now result) }
         ensures value { option_copied_mut result ≡ value S.K.cmp self.old.contents k.now }

@@ -1,4 +1,4 @@
-//! Makes calls of the library for a caller in another process, and replies with what they return.
+//! Makes calls of the library for another process, and replies with what they return.
 //!
 //! Standard input has records of 40 bytes. The first selects what the calls are made on, and each
 //! further one is a call. A reply has a word for its status, the number of its words, their digest,

@@ -1,4 +1,4 @@
-//! Keys and values that take memory, so that a leak or a second drop of one is seen from outside.
+//! Keys and values that allocate, so that a leak or a second drop of one is seen from outside.
 
 use crate::calls::{report_if_ok, report_inserted};
 use crate::levels;

@@ -11,6 +11,8 @@ pub mod tree;
 pub use argument::count::Count;
 pub use argument::group::{ExtractGroupSize, FromRef, GroupCount, Tuple2};
 pub use argument::{Argument, RankArgument, SearchArgument};
+pub use bptree_heads::head::HasHead;
+pub use bptree_heads::headed::Headed;
 pub use bptree_merging::merge_iter;
 pub use bptree_stores::node_stores::CloneStore;
 pub use bptree_tree::{InsertError, ReplaceError, SelectError};
@@ -19,6 +21,5 @@ pub use set::BPlusTreeSet;
 pub use tree::visit::{DescendError, DescendVisit, DescendVisitResult};
 pub use tree::{BPlusTree, Cursor, Key, NodeStore, NodeStoreVec, Statistic};
 
-/// The version of the library, which README.md, CHANGELOG.md and the packages for Python and Rust
-/// name too.
-pub const VERSION: &str = "0.5.0";
+/// The version of the library, which README.md, CHANGELOG.md and the packages name too.
+pub const VERSION: &str = "0.6.0";

@@ -53,7 +53,7 @@ pub fn text_of_fault(alloc: Global) -> Result<String, AllocError>
     ServeError::Io.to_string(alloc)
 }
 
-/// What is told of a refusal.
+/// What is told of a failure.
 pub fn text_of_refusal(alloc: Global) -> Result<String, AllocError>
     ensures { IfOk result (λ text. string_bytes text ≡ codes "out of memory") }
 {

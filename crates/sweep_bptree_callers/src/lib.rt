@@ -1,5 +1,4 @@
-//! Callers of lists of commands, of the line server and of one map over shards; and each path by
-//! which the library is reached.
+//! Proved callers of lists of commands, of the line server and of one map over shards.
 #![tactic(auto)]
 
 mod callers;

@@ -8,7 +8,7 @@ pub fn all() -> Vec<Case> {
     vec![
         Case::new("comparisons of look-ups", COUNTED, comparisons),
         Case::new("each value is dropped once", COUNTED, dropped),
-        Case::new("pairs that are handed over", COUNTED, handed_over),
+        Case::new("pairs that are moved out", COUNTED, handed_over),
         Case::new("equal keys are dropped", COUNTED, equal_keys),
     ]
 }
@@ -169,7 +169,7 @@ fn handed_over(talk: &mut Talk) -> Outcome {
     are_gone(talk, 10)
 }
 
-// Of pairs in runs of three equal keys each last one is kept, and none once the tree is cleared. Of
+// Of pairs in runs of three equal keys each last one is kept. A cleared tree has no pair. Of
 // pairs that are put at one key, a map keeps one key and the last value, and a set the key.
 fn equal_keys(talk: &mut Talk) -> Outcome {
     talk.ask(&[calls::load(300, 2)])?;

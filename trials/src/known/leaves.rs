@@ -37,8 +37,8 @@ type Ends = (u64, u64, usize);
 type Row = (bool, u64, u64, usize, u64, &'static [Ends]);
 
 /// A full leaf keeps 32 of its pairs, and the new one has the others. A leaf in the middle that
-/// underflows takes from the one behind it, and where that has fewer than the one before it, from
-/// that one. The first of two leaves loses pairs in place, then the other one gives, and with 16 in
+/// underflows takes from the one behind it, or if that has fewer than the one before it, from
+/// the latter. The first of two leaves loses pairs in place, then the other one gives, and with 16 in
 /// each they merge.
 const ROWS: [Row; 12] = [
     (true, 0, 64, 64, 0, &[(0, 63, 64)]),
@@ -131,7 +131,7 @@ fn rows(talk: &mut Talk) -> Outcome {
 
 /// How many pairs there are and how many equal keys follow each first one. Then come the number of
 /// full leaves, the sizes of the others, and how many children the nodes below the root have. If
-/// none are named, there are no inner nodes below the root.
+/// these are not named, there are no inner nodes below the root.
 type Load = (u64, u64, usize, &'static [usize], &'static [usize]);
 
 const LOADS: [Load; 9] = [
@@ -214,7 +214,7 @@ fn as_new(talk: &mut Talk) -> Outcome {
     talk.nodes()?;
     if talk.model.kind.has_queries() {
         let mut rows = of_empty();
-        // A rank is of a group, where there are groups, and so is a summary.
+        // If there are groups, a rank is of a group, and so is a summary.
         if talk.model.kind.has_groups() {
             rows.retain(|(record, _)| record.call != call(1, 7, &[]).call);
         }
@@ -223,7 +223,7 @@ fn as_new(talk: &mut Talk) -> Outcome {
     Ok(())
 }
 
-// 100,000 keys come in order, and each leaves once 1,000 others have come. Each number of a node is
+// 100,000 keys come in order, and each leaves once 1,000 others have come. Each node id is
 // less than the most nodes of its kind that there were at a time.
 fn few_numbers(talk: &mut Talk) -> Outcome {
     talk.ask(&refill(0..1000))?;

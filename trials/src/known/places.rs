@@ -1,4 +1,4 @@
-//! Trees and maps of numbers: their ends, places and ranks, parts, and visitors.
+//! Trees and maps of numbers: their ends, indexes and ranks, parts, and visitors.
 
 use super::{put, refill, value_of};
 use crate::fixed::{Case, Outcome, Talk};
@@ -10,8 +10,8 @@ pub fn all() -> Vec<Case> {
     vec![
         Case::new("an empty tree", 0, |talk| talk.has_all(&of_empty())),
         Case::new("pairs from both ends", 0, from_both_ends),
-        Case::new("places and ranks", 0, places),
-        Case::new("places and ranks of a map", 4, places_of_map),
+        Case::new("indexes and ranks", 0, places),
+        Case::new("indexes and ranks of a map", 4, places_of_map),
         Case::new("maps that are collected", 4, collected),
         Case::new("parts of a map", 4, parts),
         Case::new("the last of each key", 4, last_of_each),
@@ -68,7 +68,7 @@ fn from_both_ends(talk: &mut Talk) -> Outcome {
     talk.has(calls::iter_from(BACKWARD, 101), &words)
 }
 
-// The keys from 2 to 499 have their places and their ranks. Then the value at a place is written,
+// The keys from 2 to 499 have their indexes and their ranks. Then the value at an index is written,
 // and the pair there leaves, so that those behind it move up.
 fn places(talk: &mut Talk) -> Outcome {
     talk.ask(&refill(2..500))?;
@@ -95,8 +95,8 @@ fn places(talk: &mut Talk) -> Outcome {
     talk.has_all(&rows)
 }
 
-// The keys 1, 2 and 3 have the first places, and their ranks among others. A value is written at
-// the first place, and none behind the last one. Then the pairs leave from the first place.
+// The keys 1, 2 and 3 have the first indexes, and their ranks among others. A value is written at
+// the first index, and no value past the last one. Then the pairs leave from the first index.
 fn places_of_map(talk: &mut Talk) -> Outcome {
     let rank = |key: u64| call(1, 7, &[key]);
     let at = |place: u64| call(1, 6, &[0, place]);
@@ -167,7 +167,7 @@ fn walked(first: u64, len: u64, ends: u64) -> Vec<u64> {
     words
 }
 
-// Parts between keys, and from a place on.
+// Parts between keys, and from an index on.
 fn parts(talk: &mut Talk) -> Outcome {
     talk.ask(&[calls::load(100, 0)])?;
     let between: [(Option<u64>, Option<u64>, u64, u64); 6] = [

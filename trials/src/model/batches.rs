@@ -6,7 +6,7 @@ use crate::record::Record;
 use crate::words::number;
 
 impl Model {
-    /// Removes the first keys of a batch, so many of them, and answers what the call for all keys
+    /// Removes the first keys of a batch, so many of them, and returns what the call for all keys
     /// replies.
     pub fn remove_first(&mut self, keys: &[u64], many: usize) -> Vec<u64> {
         let mut words = vec![many as u64];

@@ -76,7 +76,7 @@ impl Model {
         }
     }
 
-    /// Those of maps, which hold none.
+    /// Those of maps, which hold no cursor.
     pub(super) fn bound(&mut self, record: &Record) -> Option<Answer> {
         let place = match record.member() {
             3 => Some(self.here.rank(record.a)),

@@ -90,7 +90,7 @@ impl Pairs {
         Some((key.word(), *value))
     }
 
-    /// The place of a key, or the place that it would have.
+    /// The index of a key, or the index that it would have.
     pub fn find(&self, key: u64) -> Result<usize, usize> {
         let number = key & self.order_bits;
         self.keys
@@ -129,7 +129,7 @@ impl Pairs {
         self.at(self.len().wrapping_sub(1))
     }
 
-    /// Puts a value at a key, and answers the one that was there.
+    /// Puts a value at a key, and returns the one that was there.
     pub fn put(&mut self, key: u64, value: u64) -> Option<u64> {
         let old = self.map.insert(self.key(key), value);
         if old.is_none() {
@@ -139,7 +139,7 @@ impl Pairs {
         old
     }
 
-    /// Puts a value where the key is.
+    /// Puts a value at a key that is present.
     pub fn set(&mut self, key: u64, value: u64) -> Option<u64> {
         let at = self.map.get_mut(&self.key(key))?;
         Some(std::mem::replace(at, value))
@@ -154,7 +154,7 @@ impl Pairs {
         Some((key.word(), value))
     }
 
-    /// Puts a key in the place of the one that equals it, and answers that one.
+    /// Replaces the key that equals a key by it, and returns the former.
     pub fn rekey(&mut self, key: u64) -> Option<u64> {
         let (old, value) = self.take_entry(key)?;
         self.put(key, value);
@@ -174,7 +174,7 @@ impl Pairs {
         self.keys.clear();
     }
 
-    /// The pairs from one place up to another.
+    /// The pairs from one index up to another.
     pub fn part(&self, from: usize, to: usize) -> Vec<(u64, u64)> {
         (from..to).filter_map(|place| self.at(place)).collect()
     }
@@ -201,7 +201,7 @@ impl Pairs {
         self.keys = self.map.keys().map(|key| key.word()).collect();
     }
 
-    /// Adds to each value from one place up to another.
+    /// Adds to each value from one index up to another.
     pub fn add(&mut self, from: usize, to: usize, more: u64) {
         let len = self.keys.len();
         for place in from.min(len)..to.min(len) {

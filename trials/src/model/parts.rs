@@ -41,14 +41,14 @@ pub(super) fn walk(
         tell(place, &mut words);
     }
     if !is_drained {
-        // A clone gives none at the back then.
+        // A clone gives nothing at the back then.
         words.extend([0, left]);
     }
     words
 }
 
 impl Model {
-    /// The places between the keys of a record: those from the lower one on and below the upper
+    /// The indexes between the keys of a record: those from the lower one on and below the upper
     /// one.
     pub fn between(&self, record: &Record) -> (usize, usize) {
         let bounds = record.d & (LOWER | UPPER);
@@ -58,7 +58,7 @@ impl Model {
         })
     }
 
-    // The same where a bound may be out or in.
+    // The indexes if a bound may be out or in.
     fn within(&self, record: &Record) -> (usize, usize) {
         let bits = record.d;
         let from = match (bits & LOWER > 0, bits & LOWER_OUT > 0) {
@@ -95,7 +95,7 @@ impl Model {
         Some(Answer::of(walk(record, places, false, &tell)))
     }
 
-    /// A walk over so many pairs from a place on.
+    /// A walk over so many pairs from an index on.
     pub(super) fn walk_part(&self, record: &Record, from: usize, many: usize) -> Option<Answer> {
         let from = from.min(self.here.len());
         let to = from.saturating_add(many).min(self.here.len());

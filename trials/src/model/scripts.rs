@@ -51,7 +51,7 @@ impl Model {
         words
     }
 
-    // A cursor is held at a pair, where there is one.
+    // If there is a pair, a cursor is held at it.
     fn hold_at(&self, pair: Option<(u64, u64)>, held: &mut Vec<u64>) -> Vec<u64> {
         match pair {
             Some((key, _)) => self.hold(key, held),
@@ -59,7 +59,7 @@ impl Model {
         }
     }
 
-    // A cursor moves, where there is a pair beside it.
+    // A cursor moves if there is a pair beside it.
     fn step(&self, cursor: u64, is_next: bool, held: &mut [u64]) -> Vec<u64> {
         let key = match held.get_mut(cursor as usize) {
             Some(key) => key,
@@ -77,7 +77,7 @@ impl Model {
         self.told_pair(found)
     }
 
-    // What the ends of a word take of the pairs from one place up to another.
+    // What the ends of a word take of the pairs from one index up to another.
     fn taken(&self, (from, to): (usize, usize), word: u64) -> Vec<u64> {
         let (mut from, mut to) = (from, to.max(from));
         let mut words = vec![8, word >> 56];

@@ -29,7 +29,7 @@ impl Model {
         lengths
     }
 
-    // The words of pairs from one place up to another.
+    // The words of pairs from one index up to another.
     fn told(&self, from: usize, to: usize) -> Vec<u64> {
         let mut words = Vec::new();
         for place in from..to {
@@ -143,7 +143,7 @@ impl Model {
         Some(())
     }
 
-    // The bound that goes: the one behind the shard, or the next one where that is the lesser.
+    // The bound that goes: the one behind the shard, or the next one if that is the lesser.
     pub fn merged_bound(&self, shard: u64) -> Option<usize> {
         let shard = usize::try_from(shard).ok()?;
         let bound = self.bounds.get(shard)?;
@@ -182,7 +182,7 @@ fn route(record: &Record) -> Option<Answer> {
     Some(Answer::of(words))
 }
 
-// The shard of a place of the whole, and the place in it.
+// The shard of an index of the whole, and the index in it.
 fn located(lengths: &[u64], place: u64) -> Option<(u64, u64)> {
     let mut left = place;
     for (shard, length) in lengths.iter().enumerate() {

@@ -5,7 +5,7 @@ use crate::record::Record;
 use crate::words::number;
 
 impl Model {
-    // The value at a place is replaced.
+    // The value at an index is replaced.
     fn set_at(&mut self, place: Option<usize>, value: u64) -> Option<u64> {
         let key = self.here.key_at(place?)?;
         self.here.set(key, value)
@@ -49,7 +49,7 @@ impl Model {
         Some(Answer::of(words))
     }
 
-    /// How many comparisons a look-up may make. Where no keys are, none.
+    /// How many comparisons a look-up may make: 0 if there are no keys.
     pub(super) fn compared(&self, words: Vec<u64>) -> Answer {
         if self.here.is_empty() {
             return Answer::with_last(words, 0, 0);
@@ -98,7 +98,7 @@ impl Model {
     }
 
     // A visitor that says the same at each inner node, and at a leaf its length, and then how many
-    // inner nodes it met. Where the height is not known, nor is its answer.
+    // inner nodes it met. If the height is not known, its result is not.
     pub(super) fn visit(&mut self, record: &Record) -> Option<Answer> {
         let len = self.here.len() as u64;
         let words = match (heights_of(self.here.len()), record.a) {
@@ -110,7 +110,7 @@ impl Model {
         Some(Answer::of(words))
     }
 
-    /// The calls of maps by places.
+    /// The calls of maps by indexes.
     pub(super) fn place(&mut self, record: &Record) -> Option<Answer> {
         let Record { a, b, .. } = *record;
         let (index, size) = (usize::try_from(a).ok()?, b.max(1));

@@ -59,7 +59,7 @@ fn printed(record: &Record) -> String {
 }
 
 impl Model {
-    /// What calls of stores and nodes answer, whatever the state of the store is.
+    /// What calls of stores and nodes return, whatever the state of the store is.
     pub(super) fn answer_store(&self, record: &Record) -> Option<Answer> {
         let words = match (record.family(), record.member()) {
             (0, 4 | 6) => Vec::new(),

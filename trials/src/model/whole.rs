@@ -33,7 +33,7 @@ impl Model {
         (from..to).map(pair).collect()
     }
 
-    // The others are handed over.
+    // The others are moved out.
     fn drain(&mut self, record: &Record, shows: Shows) -> Option<Answer> {
         mem::swap(&mut self.here, &mut self.there);
         let tell = |place: usize, words: &mut Vec<u64>| self.tell_item(shows, place, words);
@@ -43,7 +43,7 @@ impl Model {
         Some(Answer::of(words))
     }
 
-    // So many pairs of the others are handed over from each end, and dropped. Before each two, and
+    // So many pairs of the others are moved out from each end, and dropped. Before each two, and
     // behind all, comes how many are left; and at last how many values were dropped.
     fn hand_over(&mut self, many: u64) -> Answer {
         let none = Pairs::gathered(self.kind, []);

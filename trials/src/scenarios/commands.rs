@@ -6,7 +6,7 @@ use crate::record::{call, calls, Record};
 use crate::scenario::{quiet, swept, Scenario, Step};
 use crate::words::mixed;
 
-// A word that is drawn for a command: of its kind, of the number of a key, or of a place.
+// A word that is drawn for a command: of its kind, of the number of a key, or of an index.
 fn drawn(seed: u64, of: u64) -> u64 {
     mixed(mixed(0, seed), of)
 }
@@ -81,7 +81,7 @@ impl Base {
         }
     }
 
-    // A key that most changes of a turn put or remove. Where the leaves are many, it is of the leaf
+    // A key that most changes of a turn put or remove. If the leaves are many, it is of the leaf
     // whose turn it is.
     fn number_of(self, turn: u64) -> u64 {
         let word = drawn(turn, 1);

@@ -209,7 +209,7 @@ fn commands(keys: Keys) -> Vec<Step> {
 }
 
 // Calls that change many pairs. Those of groups at height 2 keep few, since too much is made anew
-// after each refusal.
+// after each failure.
 fn moves(kind: Kind, keys: Keys) -> Vec<Record> {
     let (many, last) = (keys.many, keys.last());
     let few = [last - 16, last, 0, LOWER | UPPER];
@@ -237,7 +237,7 @@ fn moves(kind: Kind, keys: Keys) -> Vec<Record> {
     all
 }
 
-// The calls of maps by places, or by groups.
+// The calls of maps by indexes, or by groups.
 fn places(kind: Kind, keys: Keys) -> Vec<Record> {
     if kind.has_places() {
         return vec![

@@ -1,4 +1,4 @@
-//! Maps that are made, changed, moved, and asked for places, groups and summaries.
+//! Maps that are made, changed and moved, and their indexes, groups and summaries.
 
 use super::Sort;
 use crate::batch::Batch;
@@ -18,7 +18,7 @@ pub fn halved() -> Vec<Step> {
     steps
 }
 
-// In each round a map is asked for places and ranks, and loses its first pair, and one from the
+// In each round a map is read by indexes and ranks, and loses its first pair, and one from the
 // middle.
 fn by_places() -> Vec<Step> {
     let mut all = vec![quiet(calls::load(400, 0))];
@@ -87,7 +87,7 @@ fn moved(many: u64, takes_memory: bool) -> Vec<Step> {
 }
 
 // From a map of many pairs those between two keys are removed: in the middle, at both ends, all, few,
-// none, those of one leaf, and all but one.
+// no pair, those of one leaf, and all but one.
 fn ranges_removed(many: u64) -> Vec<Step> {
     let half = many / 2;
     let ranges = [
@@ -108,7 +108,7 @@ fn ranges_removed(many: u64) -> Vec<Step> {
 /// How many pairs a map is loaded with, the word for that, its height after all, and the pairs that
 /// leave: from the back or the front, how many of them quietly, and how many of them behind these are
 /// swept. The first leaf and then the last one get 16 pairs. The next pair that leaves makes two
-/// leaves one where both fit in one, and else the leaf takes a pair from the other.
+/// leaves one if both fit in one, and else the leaf takes a pair from the other.
 type Pops = (u64, &'static str, u64, &'static [(bool, u64, u64)]);
 
 const POPS: [Pops; 3] = [
@@ -178,8 +178,8 @@ pub fn batch_removed_len(many: u64) -> usize {
     many as usize - 30
 }
 
-// Pairs of batches come to a map, by both calls: none; five, of which three are new; and the half
-// of what is there with some new ones, in no order.
+// Pairs of batches come to a map, by both calls: 0; five, of which three are new; and the half
+// of what is there with some new ones, in random order.
 fn batches_put(many: u64) -> Vec<Step> {
     let batch = |(first, end): (u64, u64)| Batch {
         many: end - first,
@@ -224,7 +224,7 @@ fn bounded(many: u64) -> Vec<Step> {
     all
 }
 
-// A map with counts whose first leaf has no more pairs than it must is asked for cursors on places,
+// A map with counts whose first leaf has no more pairs than it must makes cursors on indexes,
 // and loses its first pairs, one by its key, and the last one.
 fn pointed(many: u64) -> Vec<Step> {
     let mut all = vec![quiet(calls::load(many, 0))];
@@ -317,10 +317,10 @@ pub fn all(sort: &Sort) -> Vec<Scenario> {
     let mut all = vec![
         scenario(", map of items, with a hint", items).ending(100),
         scenario(", map", halved()).ending(32),
-        scenario(&format!(", map by places{memory}"), by_places()).ending(392),
+        scenario(&format!(", map by indexes{memory}"), by_places()).ending(392),
     ];
     for (many, word) in SIZES {
-        // Too much is made anew after each refusal of many groups.
+        // Too much is made anew after each failure of many groups.
         if !sort.takes_memory() || many < 4000 {
             let end = format!(", {word}moved between maps");
             let steps = moved(many, sort.takes_memory());

@@ -64,7 +64,7 @@ fn read() -> Vec<Step> {
 }
 
 // A map with the even numbers over four shards. The first two have a quarter of its pairs each, the
-// third has none, and the last has the others. The last leaf of each of these trees is full. Two
+// third is empty, and the last has the others. The last leaf of each of these trees is full. Two
 // pairs on each side of the first bound are read in three ways; the last 40 pairs get a shard of
 // their own; one more pair comes; they come back, so that a leaf is split; and a pair comes and goes.
 fn over_shards(many: u64) -> Vec<Step> {

@@ -96,7 +96,7 @@ fn walked() -> Vec<Step> {
     steps
 }
 
-// Reads, and changes that put no new key and take none away.
+// Reads, and changes that put no new key and remove no key.
 fn read() -> Vec<Step> {
     let (last, gone) = (199, 200);
     let range = [last, gone, 0, LOWER | UPPER];
@@ -167,7 +167,7 @@ fn removed() -> Vec<Step> {
     steps
 }
 
-// Of 65 pairs 20 are handed over from each end.
+// Of 65 pairs 20 are moved out from each end.
 fn handed_over() -> Vec<Step> {
     vec![
         quiet(calls::load(65, 0)),
@@ -185,7 +185,7 @@ pub fn counted() -> Vec<Scenario> {
         ("loaded", loaded(4161, 2), 4161),
         ("cleared", cleared(), 0),
         ("clones", cloned(), 200),
-        ("handed over", handed_over(), 0),
+        ("moved out", handed_over(), 0),
         ("a map of one key", vec![swept(call(12, 1, &[3]))], 0),
         ("a set of one key", vec![swept(call(12, 2, &[3]))], 0),
     ];

@@ -12,7 +12,7 @@ use bptree_stores::node_stores::NodeStore;
 use bptree_tree::{BPlusTree, InsertError};
 use std::alloc::AllocError;
 
-// A key that is there is never refused: it takes the value, and the one before comes back.
+// A key that is there never fails: it takes the value, and the one before comes back.
 fn replaces<S: NodeStore>(tree: &mut BPlusTree<S>, k: S::K, v: S::V) -> S::V
     requires { has S.K.cmp tree.old.contents k ≡ true }
     ensures old { value_of S.K.cmp tree.old.contents k ≡ Some result }
@@ -39,7 +39,7 @@ fn adds<S: NodeStore>(tree: &mut BPlusTree<S>, k: S::K, v: S::V) -> bool
     }
 }
 
-// A tree of as many pairs as can be counted is full for a new key, and hands the pair back.
+// A tree of as many pairs as can be counted is full for a new key, and returns the pair.
 fn is_full<S: NodeStore>(tree: &mut BPlusTree<S>, k: S::K, v: S::V) -> (S::K, S::V)
     requires full { length tree.old.contents ≡ 2 ^ 64 - 1 }
     requires new { has S.K.cmp tree.old.contents k ≡ false }
@@ -79,7 +79,7 @@ fn removes<S: NodeStore>(tree: &mut BPlusTree<S>, k: &S::K) -> Result<Option<S::
     tree.remove(k)
 }
 
-// A tree that was cleared has no pairs. A refusal changes nothing.
+// A tree that was cleared has no pairs. A failure changes nothing.
 fn clears<S: NodeStore>(tree: &mut BPlusTree<S>) -> Result<(), AllocError>
     ensures empty { OnOk result (tree.new.contents ≡ []) }
     ensures refused { OnErr result (StaysWhole S.slots tree.new tree.old) }
@@ -115,8 +115,8 @@ where
     }
 }
 
-// A pair leaves with the key that was stored, which equals the one asked for. Where that is
-// refused, the tree is as it was. Nothing is where no memory is needed.
+// A pair leaves with the key that was stored, which equals the one asked for. If that fails, the
+// tree is as it was. Nothing is where no memory is needed.
 fn takes_the_pair_of_a_key<S: NodeStore>(
     tree: &mut BPlusTree<S>,
     k: &S::K,

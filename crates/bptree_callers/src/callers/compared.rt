@@ -1,4 +1,4 @@
-//! Callers that read maps where they are lent.
+//! Callers that read maps where they are borrowed.
 ghost use Rattle.std.specs.Prelude.{◌≡◌, Some, true};
 ghost use Rattle.bptree_keys.specs.Contents.{has, value as value_of};
 

@@ -94,7 +94,7 @@ fn begins_on_the_first<S: NodeStore<K = u64>>(
 }
 
 // The key after a cursor and the one before it, with their values and without. A clone of a number
-// is never refused, and so no step is.
+// never fails, and so no step is.
 fn goes_on<S: NodeStore<K = u64>>(cursor: &Cursor<u64>, tree: &BPlusTree<S>) -> Option<u64>
     ensures { result ≡ told_key (pair_after nat_cmp tree.now.contents cursor.now) }
 {
@@ -113,8 +113,8 @@ fn goes_back<S: NodeStore<K = u64>>(cursor: &Cursor<u64>, tree: &BPlusTree<S>) -
     }
 }
 
-// Nor is a step over keys of any kind whose clones are never refused, nor a copy of a cursor on
-// such a key.
+// Nor is a step over keys of any kind whose clones never fail, nor a copy of a cursor on such a
+// key.
 fn steps_without_memory<S: NodeStore>(
     cursor: &Cursor<S::K>,
     tree: &BPlusTree<S>,

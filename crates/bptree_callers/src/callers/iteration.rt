@@ -68,7 +68,7 @@ fn counts_what_is_left<S: NodeStore>(pairs: &mut Iter<'_, S>) -> (usize, (usize,
     (before, (*pairs).size_hint())
 }
 
-// A clone has the same pairs left, and is never refused.
+// A clone has the same pairs left, and never fails.
 fn clones_what_is_left<'a, S: NodeStore>(pairs: &Iter<'a, S>) -> Result<Iter<'a, S>, AllocError>
     ensures { result ≡ Ok pairs.now }
 {

@@ -91,7 +91,7 @@ fn is_the_same_again<K: Key, V: Drop, A: Argument<K>>(
     BPlusTreeMap::from_iter(alloc, map)
 }
 
-// A key that is there is never refused: it takes the value, and the one before comes back.
+// A key that is there never fails: it takes the value, and the one before comes back.
 fn replaces<K: Key, V: Drop, A: Argument<K>>(map: &mut BPlusTreeMap<K, V, A>, k: K, v: V) -> V
     requires { has K.cmp map.old k ≡ true }
     ensures old { value_of K.cmp map.old k ≡ Some result }
@@ -165,7 +165,7 @@ fn removes<K: Key, V: Drop, A: Argument<K>>(
     map.remove(k)
 }
 
-// A map that was cleared has no pairs. A refusal changes nothing.
+// A map that was cleared has no pairs. A failure changes nothing.
 fn clears<K: Key, V: Drop, A: Argument<K>>(
     map: &mut BPlusTreeMap<K, V, A>,
 ) -> Result<(), AllocError>
@@ -322,7 +322,7 @@ fn writes_by_a_query<K: Key, V: Drop, A: SearchArgument<K>>(
     }
 }
 
-// What a visitor answers, it may answer.
+// What a visitor returns, it may answer.
 fn is_visited<K: Key, V: Drop, A: Argument<K>, W: DescendVisit<K, V, A>>(
     map: &BPlusTreeMap<K, V, A>,
     visitor: W,

@@ -1,5 +1,5 @@
-//! Callers of the nodes that are lent: whatever changed the list before, they hold it, and none is
-//! idle beside it.
+//! Callers of the nodes that are borrowed: whatever changed the list before, they hold it, and none
+//! is idle beside it.
 ghost use Rattle.std.specs.Prelude.{◌≡◌, IsTrue, OnOk, Some, false};
 ghost use Rattle.bptree_ascent.specs.Lending.{written};
 ghost use Rattle.bptree_keys.specs.Contents.{put, del};
@@ -45,8 +45,8 @@ fn lends_the_pairs_of_a_map<K: Key, V: Drop, A: Argument<K>>(
     lends_the_list(map.tree())
 }
 
-// Each node that stands in the store is reached from the root, and once: no tree keeps a list
-// beside idle nodes.
+// Each node that is in the store is reached from the root, and once: no tree keeps a list beside
+// idle nodes.
 fn has_no_idle_node<S: NodeStore>(tree: &BPlusTree<S>) -> (&S, NodeId, usize)
     ensures leaves { EachLeafStandsOnce (S.slots result.0.now) result.2 result.1 }
     ensures inners { EachInnerStandsOnce (S.slots result.0.now) result.2 result.1 }

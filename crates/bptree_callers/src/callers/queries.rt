@@ -11,7 +11,7 @@ use bptree_stores::node_stores::NodeStore;
 use bptree_tree::{BPlusTree, SelectError};
 use std::alloc::AllocError;
 
-// The pair that is found stands at an allowed place; where none is found, none is allowed.
+// The pair that is found stands at an allowed place; if none is found, none is allowed.
 fn finds_an_allowed_place<S: NodeStore>(
     tree: &BPlusTree<S>,
     query: <S::Argument as SearchArgument<S::K>>::Query,
@@ -42,7 +42,7 @@ where
     }
 }
 
-// The pair that leaves is the one with its key. Where none leaves, and where memory is refused,
+// The pair that leaves is the one with its key. Where none leaves, and if an allocation fails,
 // nothing changes.
 fn takes_a_pair<S: NodeStore>(
     tree: &mut BPlusTree<S>,

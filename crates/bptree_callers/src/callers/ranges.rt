@@ -92,7 +92,7 @@ fn counts_the_pairs_of_a_part<S: NodeStore<K = u64, V = u64, Argument = Count>>(
     Ok(tree.part_argument(from, to)?.count())
 }
 
-// It tells how many pairs are between two keys, and is never refused.
+// It tells how many pairs are between two keys, and never fails.
 fn tells_how_many_are_between<K: Key, V: Drop>(
     tree: &BPlusTree<NodeStoreVec<K, V, Count>>,
     lo: &K,

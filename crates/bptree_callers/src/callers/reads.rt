@@ -84,7 +84,7 @@ fn is_low<S: NodeStore>(tree: &BPlusTree<S>) -> (usize, usize)
     (tree.height(), tree.len())
 }
 
-// The root is a leaf just where there are no levels above the leaves, and it stands in the store.
+// The root is a leaf just where there are no levels above the leaves, and it is in the store.
 fn reads_the_root<S: NodeStore>(tree: &BPlusTree<S>) -> bool
     ensures { result ≡ true }
 {

@@ -52,8 +52,8 @@ fn gathers<K: Key>(alloc: Global, keys: Vec<K>) -> Result<Set<K>, AllocError>
     BPlusTreeSet::from_iter(alloc, keys)
 }
 
-// The answer says whether the key is new, and a key that is there is never refused. In a set of
-// fewer keys than there can be, the one refusal is for want of memory, and hands the key back.
+// The answer says whether the key is new, and a key that is there never fails. In a set of fewer
+// keys than there can be, the one refusal is for want of memory, and returns the key.
 fn puts_in<K: Key>(set: &mut Set<K>, k: K) -> Result<bool, InsertError<K, ()>>
     ensures fresh { holds K.cmp set.old k ≡ false → IfOk result (λ is_new. is_new ≡ true) }
     ensures there { holds K.cmp set.old k ≡ true → result ≡ Ok false }
@@ -149,7 +149,7 @@ fn counts_what_is_left<K: Key>(keys: &mut Iter<'_, K>) -> (usize, Option<usize>)
     (*keys).size_hint()
 }
 
-// A clone has the same keys left, and is never refused.
+// A clone has the same keys left, and never fails.
 fn clones_what_is_left<'a, K: Key>(keys: &Iter<'a, K>) -> Cloned<Iter<'a, K>>
     ensures { result ≡ Ok keys.now }
 {
@@ -192,7 +192,7 @@ fn counts_both<K: Key>(keys: &Union<'_, K>) -> (usize, Option<usize>)
     keys.size_hint()
 }
 
-// A clone of a union has the same keys left, and is never refused.
+// A clone of a union has the same keys left, and never fails.
 fn clones_a_union<'a, K: Key>(keys: &Union<'a, K>) -> Cloned<Union<'a, K>>
     ensures { result ≡ Ok keys.now }
 {
@@ -290,7 +290,7 @@ fn gives_the_first_of_either<'a, K: Key>(keys: &mut SymmetricDifference<'a, K>) 
     keys.next()
 }
 
-// Clones have the same keys left, and are never refused.
+// Clones have the same keys left, and never fail.
 fn clones_a_difference<'a, K: Key>(keys: &Difference<'a, K>) -> Cloned<Difference<'a, K>>
     ensures { result ≡ Ok keys.now }
 {

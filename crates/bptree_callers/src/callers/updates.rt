@@ -18,7 +18,7 @@ use bptree_tree::{BPlusTree, Cursor, InsertError};
 use std::alloc::AllocError;
 use std::ops::Bound;
 
-// Where no key equals k, the value at k is the given one; and else no pair is added.
+// If no key equals k, the value at k is the given one; and else no pair is added.
 fn begins_at<K: Key, A: Argument<K>>(
     map: &mut BPlusTreeMap<K, u64, A>,
     k: K,
@@ -29,8 +29,8 @@ fn begins_at<K: Key, A: Argument<K>>(
     map.upsert_with(k, 1, |count: &mut u64| *count = count.wrapping_add(1))
 }
 
-// The count at a key goes up by one, from 0 where the key is new. Where that is refused, nothing
-// has changed.
+// The count at a key goes up by one, from 0 where the key is new. If that fails, nothing has
+// changed.
 fn counts_at<K: Key, A: Argument<K>>(
     map: &mut BPlusTreeMap<K, u64, A>,
     k: K,
@@ -121,7 +121,7 @@ fn keeps_all_keys_from<S: NodeStore, F: FnMut(&S::K, &mut S::V)>(
     tree.update_range(Some(lo), None, f);
 }
 
-// From a key up to itself, with both taken in, stands the pair of that key, where there is one.
+// From a key up to itself, with both taken in, stands the pair of that key, if there is one.
 fn finds_itself<S: NodeStore>(tree: &BPlusTree<S>, k: &S::K) -> bool
     ensures { result ≡ has S.K.cmp tree.now.contents k.now }
 {

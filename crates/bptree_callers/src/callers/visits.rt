@@ -13,7 +13,7 @@ use bptree_stores::node_stores::NodeStore;
 use bptree_tree::BPlusTree;
 
 // What is answered is allowed for the visitor on the pairs of the tree. A visitor to which no other
-// child is ever allowed gets no error but a refusal.
+// child is ever allowed gets no error but a failure.
 fn visits<S: NodeStore, W: DescendVisit<S::K, S::V, S::Argument>>(
     tree: &BPlusTree<S>,
     visitor: W,
@@ -24,7 +24,7 @@ fn visits<S: NodeStore, W: DescendVisit<S::K, S::V, S::Argument>>(
     tree.descend_visit(visitor)
 }
 
-// The keys of a group are counted, 0 where there is none, and no child is missed.
+// The keys of a group are counted, 0 if there is none, and no child is missed.
 fn sizes_a_group<S: NodeStore<K = (u64, u64), Argument = GroupCount<First>>>(
     tree: &BPlusTree<S>,
     g: First,

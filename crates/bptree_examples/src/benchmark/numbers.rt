@@ -21,7 +21,7 @@ pub fn next_number(state: u64) -> u64 {
     next
 }
 
-/// Odd numbers in a mixed order, of which hardly two are equal.
+/// Odd numbers in random order, of which hardly two are equal.
 pub fn odd_numbers(alloc: Global, many: usize) -> Result<Vec<u64>, AllocError> {
     let mut numbers = Vec::with_capacity(alloc, many)?;
     let mut state = 0x9e37_79b9_7f4a_7c15;

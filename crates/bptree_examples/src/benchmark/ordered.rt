@@ -15,7 +15,7 @@ pub trait Mapped<K>: Drop + Sized {
     /// The value at a key, or 0.
     fn read(&self, key: &K) -> u64;
 
-    /// Puts a pair. Returns 1 if the key was there and 0 if not, or `None` for a refusal.
+    /// Puts a pair. Returns 1 if the key was there and 0 if not, or `None` for a failure.
     fn put(&mut self, key: K, value: u64) -> Option<u64>;
 
     fn number_of_pairs(&self) -> usize;
@@ -26,7 +26,7 @@ pub trait Ordered: Mapped<u64> {
     /// The first key that is not below one, or 0.
     fn first_from(&self, key: u64) -> u64;
 
-    /// Removes a key. Returns its value, or 0 if it was not there, or `None` for a refusal.
+    /// Removes a key. Returns its value, or 0 if it was not there, or `None` for a failure.
     fn take(&mut self, key: &u64) -> Option<u64>;
 
     fn sum_of_keys(&self) -> u64;

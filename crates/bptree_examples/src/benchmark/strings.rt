@@ -1,17 +1,44 @@
-//! Keys that point elsewhere: texts, each of which has 1 as its value.
+//! Keys whose bytes are in memory of their own: strings, each of which has 1 as its value.
 
 use crate::benchmark::numbers::Numbers;
 use crate::benchmark::ordered::{Get, Mapped};
 use crate::benchmark::timing::{Report, read_each};
 use std::alloc::{AllocError, Global};
+use sweep_bptree::{Headed, Key};
 
 const DIGITS: [char; 16] = [
     '0', '1', '2', '3', '4', '5', '6', '7', '8', '9', 'a', 'b', 'c', 'd', 'e', 'f',
 ];
 
-// The sixteen hexadecimal digits of a number.
-fn text_of(alloc: Global, number: u64) -> Result<String, AllocError> {
-    let mut text = String::with_capacity(alloc, 16)?;
+/// A key that is made of a string.
+pub trait Text: Key + Drop {
+    fn of(text: String) -> Self;
+}
+
+impl Text for String {
+    fn of(text: String) -> String {
+        text
+    }
+}
+
+impl Text for Headed<String> {
+    fn of(text: String) -> Headed<String> {
+        Headed::new(text)
+    }
+}
+
+/// The keys of a run: what is in front of the digits of each, and the names of its two calls.
+#[derive(Clone, Copy)]
+pub struct Form<'a> {
+    pub front: &'a str,
+    pub insert: &'a str,
+    pub get: &'a str,
+}
+
+// Sixteen hexadecimal digits of a number behind the same front.
+fn text_of(alloc: Global, front: &str, number: u64) -> Result<String, AllocError> {
+    let mut text = String::with_capacity(alloc, 32)?;
+    text.push_str(front)?;
     let mut rest = number;
     for _ in 0..16 {
         text.push(DIGITS[(rest >> 60) as usize % 16])?;
@@ -20,18 +47,23 @@ fn text_of(alloc: Global, number: u64) -> Result<String, AllocError> {
     Ok(text)
 }
 
-fn texts_of(alloc: Global, numbers: &[u64]) -> Result<Vec<String>, AllocError> {
+fn texts_of<K: Text>(alloc: Global, front: &str, numbers: &[u64]) -> Result<Vec<K>, AllocError> {
     let mut texts = Vec::with_capacity(alloc, numbers.len())?;
     for number in numbers {
-        texts.push(text_of(alloc, *number)?)?;
+        texts.push(K::of(text_of(alloc, front, *number)?))?;
     }
     Ok(texts)
 }
 
-// Puts texts. Returns whether nothing was refused.
-fn insert_texts<T: Mapped<String>>(report: Report<'_>, map: &mut T, texts: Vec<String>) -> bool {
+// Puts texts. Returns whether no allocation failed.
+fn insert_texts<K: Text, T: Mapped<K>>(
+    report: Report<'_>,
+    name: &str,
+    map: &mut T,
+    texts: Vec<K>,
+) -> bool {
     let many = texts.len();
-    let clock = report.start("text-insert");
+    let clock = report.start(name);
     for text in texts {
         if map.put(text, 1).is_none() {
             return false;
@@ -41,32 +73,42 @@ fn insert_texts<T: Mapped<String>>(report: Report<'_>, map: &mut T, texts: Vec<S
     true
 }
 
-fn put_and_get<T: Mapped<String>>(
+fn put_and_get<K: Text, T: Mapped<K>>(
     report: Report<'_>,
-    texts: Vec<String>,
-    wanted: &[String],
+    form: Form<'_>,
+    texts: Vec<K>,
+    wanted: &[K],
 ) -> bool {
     match T::made(report.rt.alloc()) {
         Ok(mut map) => {
-            insert_texts(report, &mut map, texts)
-                && read_each(report, "text-get", &Get, &map, wanted)
+            insert_texts(report, form.insert, &mut map, texts)
+                && read_each(report, form.get, &Get, &map, wanted)
         }
         Err(_) => false,
     }
 }
 
-fn take_wanted<T: Mapped<String>>(report: Report<'_>, keys: &[u64], wanted: &[String]) -> bool {
-    match texts_of(report.rt.alloc(), keys) {
-        Ok(texts) => put_and_get::<T>(report, texts, wanted),
+fn take_wanted<K: Text, T: Mapped<K>>(
+    report: Report<'_>,
+    form: Form<'_>,
+    keys: &[u64],
+    wanted: &[K],
+) -> bool {
+    match texts_of(report.rt.alloc(), form.front, keys) {
+        Ok(texts) => put_and_get::<K, T>(report, form, texts, wanted),
         Err(_) => false,
     }
 }
 
-/// Puts the texts of the keys, and looks them up in another order. Returns whether nothing was
-/// refused.
-pub fn take<T: Mapped<String>>(report: Report<'_>, numbers: Numbers<'_>) -> bool {
-    match texts_of(report.rt.alloc(), numbers.others) {
-        Ok(wanted) => take_wanted::<T>(report, numbers.keys, &wanted),
+/// Puts the texts of the keys, and looks them up in another order. Returns whether no allocation
+/// failed.
+pub fn take<K: Text, T: Mapped<K>>(
+    report: Report<'_>,
+    form: Form<'_>,
+    numbers: Numbers<'_>,
+) -> bool {
+    match texts_of(report.rt.alloc(), form.front, numbers.others) {
+        Ok(wanted) => take_wanted::<K, T>(report, form, numbers.keys, &wanted),
         Err(_) => false,
     }
 }

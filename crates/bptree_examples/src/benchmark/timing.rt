@@ -5,14 +5,14 @@ use std::time::Instant;
 /// A call that reads.
 pub trait Reads<T, K> {
     /// Makes the call with a key. Returns what it adds to the sum of a line, or `None` for a
-    /// refusal.
+    /// failure.
     fn call(&self, subject: &T, key: &K) -> Option<u64>;
 }
 
 /// A call that changes what is called.
 pub trait Changes<T, K> {
     /// Makes the call with a key. Returns what it adds to the sum of a line, or `None` for a
-    /// refusal.
+    /// failure.
     fn call(&self, subject: &mut T, key: &K) -> Option<u64>;
 }
 

@@ -2,7 +2,7 @@
 
 use std::alloc::{AllocError, Global};
 
-/// A text. Where memory is refused, it notes that, and is not whole from then on.
+/// A text. If an allocation fails, it notes that, and is not whole from then on.
 #[derive(Drop)]
 pub struct Text {
     alloc: Global,

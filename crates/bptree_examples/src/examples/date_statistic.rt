@@ -143,8 +143,7 @@ impl Argument<Date> for DateStatisticArgument {
     ghost default_is_summary = { λ a h. Prim.search rules };
 }
 
-/// Counts the keys of one year. It answers 0 where there is none, and stops at the greatest
-/// `usize`.
+/// Counts the keys of one year. It returns 0 if there is none, and stops at the greatest `usize`.
 #[derive(Drop)]
 pub struct CountForYear {
     pub year: u16,
@@ -175,7 +174,7 @@ impl<V> DescendVisit<Date, V, DateStatisticArgument> for CountForYear {
 
     /// At most four comparisons of years a child, up to the year. It goes down only into a child
     /// that has keys on both sides of the year's beginning or of its end. Of a summary whose last
-    /// date is before its first it answers nothing.
+    /// date is before its first it returns nothing.
     fn visit_inner(
         &mut self,
         _keys: &[Date],
@@ -231,7 +230,7 @@ pub fn each_day(alloc: Global, from: u16, to: u16) -> Result<Calendar, AllocErro
 /// How many dates of a year are there.
 ///
 /// It needs a map that keeps `DateStatisticArgument`, and `descend_visit`, which sees one node a
-/// level and takes no memory. No call is refused.
+/// level and allocates nothing. No call is refused.
 pub fn days_of(calendar: &Calendar, year: u16) -> Result<Option<usize>, DescendError>
     ensures counted { IfOk result (λ days. days ≡ Some (in_year year (keys_of calendar.now))) }
     ensures refused { IfErr result (λ error. error ≡ OutOfMemory) }

@@ -1,12 +1,16 @@
-//! A set of words.
+//! A set of words, each beside its first eight bytes as a number.
 use std::alloc::{AllocError, Global};
-use sweep_bptree::BPlusTreeSet;
+use sweep_bptree::{BPlusTreeSet, Headed};
 
-type Words = BPlusTreeSet<String>;
+type Words = BPlusTreeSet<Headed<String>>;
+
+fn headed(alloc: Global, word: &str) -> Result<Headed<String>, AllocError> {
+    Ok(Headed::new(String::from_str(alloc, word)?))
+}
 
 fn put_all(alloc: Global, words: &mut Words, all: &[&str]) -> Result<(), AllocError> {
     for word in all {
-        if words.insert(String::from_str(alloc, word)?).is_err() {
+        if words.insert(headed(alloc, word)?).is_err() {
             return Err(AllocError);
         }
     }
@@ -14,8 +18,7 @@ fn put_all(alloc: Global, words: &mut Words, all: &[&str]) -> Result<(), AllocEr
 }
 
 fn is_there(alloc: Global, words: &Words, word: &str) -> Result<bool, AllocError> {
-    let word = String::from_str(alloc, word)?;
-    Ok(words.contains(&word))
+    Ok(words.contains(&headed(alloc, word)?))
 }
 
 fn answers(alloc: Global, words: &Words) -> Result<[bool; 3], AllocError> {

@@ -1,4 +1,4 @@
-//! A visitor that counts the nodes on its way down.
+//! A visitor that counts the nodes on its descent.
 ghost use Rattle.bptree_examples.specs.Depths.{IsDepth};
 
 use std::alloc::{AllocError, Global};

@@ -55,7 +55,7 @@ pub fn new_items(alloc: Global, all: &[(u32, u32)]) -> Result<Items, AllocError>
     filled(alloc, &items)
 }
 
-/// The number of items of a group, 0 where there is none.
+/// The number of items of a group, 0 if there is none.
 ///
 /// It needs a map that keeps `GroupCount`, and `descend_visit` with `ExtractGroupSize`, which
 /// compares at most two groups a child and goes down one way. It is refused only where a group that

@@ -38,10 +38,10 @@ pub fn new_board(alloc: Global, scores: &[(u32, u32)]) -> Result<Board, AllocErr
     filled(alloc, &standings)
 }
 
-/// How many stand before a standing that is on the board; none where it is not there.
+/// How many stand before a standing that is on the board; none if it is not there.
 ///
 /// It needs a map that keeps `Count`, and `rank_by_argument`, which goes down one way: a search a
-/// level, and one addition a child before the one on the way. It takes no memory, and no call is
+/// level, and one addition a child before the one on the way. It allocates nothing, and no call is
 /// refused.
 pub fn rank_of(board: &Board, standing: &Standing) -> Option<usize>
     ensures { result ≡ rank_in ⟦<Standing as Ord>⟧.cmp board.now standing.now }
@@ -57,7 +57,7 @@ pub fn rank_of(board: &Board, standing: &Standing) -> Option<usize>
 /// The player at this rank, counted from 0; `None` past the end.
 ///
 /// It needs a map that keeps `Count`, and `get_by_argument`, which goes down one way with at most
-/// one subtraction a child. It takes no memory, and no call is refused.
+/// one subtraction a child. It allocates nothing, and no call is refused.
 pub fn player_at(board: &Board, rank: usize) -> Option<u32>
     ensures { result ≡ option_map (λ pair. pair.0.player) (slice_get board.now rank) }
 {

@@ -44,9 +44,8 @@ pub fn new_index(alloc: Global, values: &[(u64, u64)]) -> Result<Index, AllocErr
 /// Puts a new entry, and removes an old one. Where both are the same entry, it is put and stays.
 ///
 /// It needs `insert` and `remove`, each of which goes down one way. The new entry is put first,
-/// since that alone takes memory for nodes: where it is refused, the index is as it was. Where the
-/// old entry can't be removed, the new one is taken back; where that can't be done either, it
-/// stays.
+/// since that alone allocates for nodes: if it fails, the index is as it was. Where the old entry
+/// can't be removed, the new one is taken back; where that can't be done either, it stays.
 pub fn move_entry(index: &mut Index, old: Entry, new: Entry) -> Result<(), AllocError>
     ensures moved { OnOk result (old ≢ new → index.new ≡ moved ⟦<Entry as Ord>⟧.cmp tt index.old old new) }
     ensures kept { OnOk result (old ≡ new → index.new ≡ put ⟦<Entry as Ord>⟧.cmp index.old new tt) }
@@ -73,8 +72,8 @@ pub fn move_entry(index: &mut Index, old: Entry, new: Entry) -> Result<(), Alloc
 
 /// Gives a row another value, and tells whether the row is there.
 ///
-/// It needs `get`, `move_entry` and `insert`, which searches once and is never refused for a row
-/// that is there. So the index is changed first: where that is refused, the row keeps its value.
+/// It needs `get`, `move_entry` and `insert`, which searches once and never fails for a row that is
+/// there. So the index is changed first: if that fails, the row keeps its value.
 pub fn set_value(rows: &mut Rows, index: &mut Index, row: u64, now: u64) -> Result<bool, AllocError>
     ensures there { IfOk result (λ it. it ≡ has nat_cmp rows.old row) }
     ensures row { IfOk result (λ it. IsTrue it → rows.new ≡ put nat_cmp rows.old row now) }

@@ -1,4 +1,4 @@
-//! A map that is lent: its pairs in a `for`, and the value at a key.
+//! A map that is borrowed: its pairs in a `for`, and the value at a key.
 ghost use Rattle.std.specs.Prelude.{◌≡◌, Some, IsTrue};
 ghost use Rattle.std.specs.Map.Iter.{ShowsInOrder, deref_pair};
 ghost use Rattle.bptree_keys.specs.Contents.{IsAscending, has, value};

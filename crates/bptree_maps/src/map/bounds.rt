@@ -11,11 +11,11 @@ use bptree_keys::key::Key;
 use std::ops::{Bound, RangeBounds};
 
 impl<K: Key, V: Drop, A: Argument<K>> BPlusTreeMap<K, V, A> {
-    /// The pairs from a start on up to an end, in the order of their keys: each bound takes the
-    /// pair of its key in, leaves it out, or is open. Of a start above the end there are none. It
-    /// takes no memory, and neither do its steps.
+    /// The pairs between two bounds, in the order of their keys. Each bound includes its key,
+    /// excludes it, or is open. If the start is above the end, there are none.
     ///
-    /// It costs what `range` does: each bound that is not open is searched for once.
+    /// O(log n) to begin: one descent for each bound that is not open. O(1) a step. `len` takes
+    /// O(1) for each leaf of the range. Neither it nor a step allocates or fails.
     pub fn range_bounds<'b>(&self, lo: Bound<&'b K>, hi: Bound<&'b K>) -> Iter<'_, K, V, A>
         ensures rest { result ≡ pairs_within K.cmp self.now lo.entry hi.entry }
         ensures ascending { IsAscending K.cmp result }

@@ -42,6 +42,8 @@ impl<K: Key, V: Drop, A: Argument<K>> BPlusTreeMap<K, V, A> {
     /// allocates. If one of these fails, the clones are dropped and the map is unchanged. It returns
     /// `Full` where `extend_from_vec` does. If the slice is empty, it allocates nothing and cannot
     /// fail.
+    ///
+    /// O(m log m) to sort, and then what `append` takes.
     pub fn extend_from_slice(&mut self, pairs: &[(K, V)]) -> Result<(), AppendError>
     where
         V: Clone,

@@ -12,7 +12,7 @@ use std::alloc::AllocError;
 use std::iter::{ExactSizeIterator, FusedIterator};
 use std::marker::Model;
 
-/// The pairs of a map that are left, in the order of their keys. No step takes memory.
+/// The pairs of a map that are left, in the order of their keys. No step allocates.
 #[derive(Drop)]
 pub struct Iter<'a, K: Key, V: Drop, A: Argument<K>> {
     inner: iterator::Iter<'a, NodeStoreVec<K, V, A>>,

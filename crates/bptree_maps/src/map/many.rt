@@ -1,10 +1,10 @@
 //! Calls for many keys at once.
-ghost use Rattle.std.specs.Prelude.{◌≡◌, ◌<◌, ◌≤◌, ◌^◌, [], Err, IfOk, IsOk, OnErr, OnOk, length, map, take};
+ghost use Rattle.std.specs.Prelude.{◌≡◌, ◌<◌, ◌≤◌, ◌^◌, [], Err, IfOk, IsOk, IsTrue, OnErr, OnOk, Some, length, map, slice_get, take};
 ghost use Rattle.std.specs.List.{zip};
 ghost use Rattle.std.specs.Map.Iter.{deref_pair};
 ghost use Rattle.std.specs.Option.{option_copied, option_map};
 ghost use Rattle.bptree_batches.specs.Each.{found_each, pairs_each, ranked_each, read_each, values_each};
-ghost use Rattle.bptree_keys.specs.Contents.{IsAscending};
+ghost use Rattle.bptree_keys.specs.Contents.{IsAscending, has};
 ghost use Rattle.bptree_keys.specs.Keys.{AllInfallible};
 ghost use Rattle.bptree_maps.specs.Many.{AreColumns, PutsColumns, removed_each, without_each};
 ghost use Rattle.bptree_maps.specs.Moving.{AreTooMany};
@@ -54,6 +54,8 @@ impl<K: Key, V: Drop, A: Argument<K>> BPlusTreeMap<K, V, A> {
 
     /// Writes for each key whether the map holds it to `found`, at the key's index. It costs what
     /// `get_many` does.
+    ///
+    /// O(k log n) for k keys. It allocates nothing and cannot fail.
     pub fn contains_many(&self, keys: &[K], found: &mut [bool])
         requires { length found.old ≡ length keys.now }
         ensures { found.new ≡ found_each K.cmp self.now keys.now }
@@ -73,6 +75,7 @@ impl<K: Key, V: Drop, A: Argument<K>> BPlusTreeMap<K, V, A> {
         ensures left { self.new ≡ without_each K.cmp self.old (take result keys.now) }
         ensures removed { removed.new ≡ removed_each K.cmp self.old (take result keys.now) removed.old }
         ensures infallible { A.needs_no_memory → AllInfallible K.is_infallible → result ≡ length keys.now }
+        ensures stops { (k : K) → slice_get keys.now result ≡ Some k → IsTrue (has K.cmp self.new k) }
     {
         let mut at = 0;
         'keys: while at < keys.len() {
@@ -92,6 +95,8 @@ impl<K: Key, V: Drop, A: Argument<K>> BPlusTreeMap<K, V, A> {
     /// It clones k keys, allocates a vector of k pairs, and costs what `extend_from_vec` of that
     /// vector costs. If one of these fails, the map is unchanged. It returns `Full` where
     /// `extend_from_vec` does. For no keys it allocates nothing and cannot fail.
+    ///
+    /// O(k log k) to sort, and then what `append` takes.
     pub fn extend_from_columns(&mut self, keys: &[K], values: &[V]) -> Result<(), AppendError>
     where
         V: Copy,
@@ -116,6 +121,8 @@ impl<K: Key, V: Drop, A: Argument<K>> BPlusTreeMap<K, V, A> {
     ///
     /// It costs what `get_many` and `extend_from_columns` cost. If it fails, the map is unchanged, and
     /// `old` and `found` say what it holds.
+    ///
+    /// O(k log n) to read, O(k log k) to sort, and then what `append` takes.
     pub fn insert_many(
         &mut self,
         keys: &[K],
@@ -144,6 +151,8 @@ impl<K: Key, V: Drop> BPlusTreeMap<K, V, Count> {
     /// Writes the number of smaller keys of the map for each given key to `ranks`, at the key's
     /// index. `ranks` has the length of `keys`. It costs what `get_many` does, and reads the counts
     /// on the way.
+    ///
+    /// O(k log n) for k keys. It allocates nothing and cannot fail.
     pub fn rank_many(&self, keys: &[K], ranks: &mut [usize])
         requires { length ranks.old ≡ length keys.now }
         ensures ranks { ranks.new ≡ ranked_each K.cmp self.now keys.now }

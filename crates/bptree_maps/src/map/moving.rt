@@ -21,6 +21,8 @@ impl<K: Key, V: Drop, A: Argument<K>> BPlusTreeMap<K, V, A> {
     /// It costs an insertion a pair. If one fails, the pairs before it are stored, that pair is
     /// returned in the error, and the rest of the iterator is dropped. A pair whose key is present
     /// never fails. The error is `Full` if the map as it is left has `usize::MAX` pairs.
+    ///
+    /// O(m log(n + m)) for m pairs.
     pub fn extend<I: IntoIterator<Item = (K, V)>>(
         &mut self,
         pairs: I,

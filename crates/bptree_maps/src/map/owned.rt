@@ -11,8 +11,8 @@ use bptree_tree::tree;
 use std::iter::{ExactSizeIterator, FusedIterator};
 use std::marker::Model;
 
-/// The pairs of an owned map that are left, in the order of their keys. A step takes no memory, and
-/// is not refused; what is left is dropped with it.
+/// The pairs of an owned map that are left, in the order of their keys. A step allocates nothing,
+/// and is not refused; what is left is dropped with it.
 #[derive(Drop)]
 pub struct IntoIter<K: Key, V: Drop, A: Argument<K>> {
     inner: tree::IntoIter<NodeStoreVec<K, V, A>>,

@@ -17,6 +17,8 @@ impl<K: Key, V: Drop, A: Argument<K>> BPlusTreeMap<K, V, A> {
     /// How many pages of `s` pairs the map has: its length divided by `s`, rounded up.
     ///
     /// It takes constant time, allocates nothing, and never fails.
+    ///
+    /// O(1).
     pub fn pages(&self, s: usize) -> usize
         requires { 1 ≤ s }
         ensures { result ≡ div_ceil (length self.now) s }
@@ -82,6 +84,8 @@ impl<K: Key, V: Drop> BPlusTreeMap<K, V, Count> {
 
 /// The pages of a list, from the first to the last, are the list, one after another; and each later
 /// page is empty. The function does nothing, in constant time, and never fails.
+///
+/// O(1).
 pub fn laws_of_pages<K: Key, V: Drop>()
     ensures all { (l : List (K × V)) (s : ℕ) → 1 ≤ s → first_pages l s (div_ceil (length l) s) ≡ l }
     ensures later { (l : List (K × V)) (p s : ℕ) → 1 ≤ s → div_ceil (length l) s ≤ p

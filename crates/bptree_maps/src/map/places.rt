@@ -11,10 +11,9 @@ use bptree_tree::Cursor;
 use std::alloc::AllocError;
 
 impl<K: Key, V: Drop, A: Argument<K>> BPlusTreeMap<K, V, A> {
-    /// A cursor on the pair at a place that is allowed for the query, and the value there; or none.
-    /// It takes what a clone of that key takes, and what the argument takes.
+    /// A cursor on the pair at an index that is allowed for the query, with its value, or `None`.
     ///
-    /// It costs what `get_by_argument` does.
+    /// O(log n). It clones that key. It fails only if the clone or the argument fails.
     pub fn cursor_by_argument(
         &self,
         query: <A as SearchArgument<K>>::Query,
@@ -29,10 +28,11 @@ impl<K: Key, V: Drop, A: Argument<K>> BPlusTreeMap<K, V, A> {
 }
 
 impl<K: Key, V: Drop> BPlusTreeMap<K, V, Count> {
-    /// A cursor on the pair at a place in the order of the keys, from 0 on, and the value there; or
-    /// none past the end. It takes what a clone of that key takes, and past the end nothing.
+    /// A cursor on the pair at an index in the order of the keys, counted from 0, with its value,
+    /// or `None` past the last one.
     ///
-    /// It is one way down by the counts.
+    /// O(log n). It clones that key, and fails only if the clone fails. Past the last pair it
+    /// cannot fail.
     pub fn cursor_at(&self, i: usize) -> Result<Option<(Cursor<K>, &V)>, AllocError>
         ensures cursor { IfOk result (PointsAt K.cmp (slice_get self.now i)) }
         ensures value { IfOk result (ShowsValueOf (slice_get self.now i)) }

@@ -27,13 +27,13 @@ fn of_map<K: Key, V: Drop, A: Argument<K>>(
 }
 
 impl<K: Key, V: Drop, A: Argument<K>> BPlusTreeMap<K, V, A> {
-    /// Keeps the pairs for which a closure answers true, in the order of their keys, with their
-    /// values as it leaves them, and drops the others.
+    /// Keeps the pairs for which a closure returns true, in the order of their keys, with the
+    /// values that it leaves, and drops the others.
     ///
-    /// It costs an insertion in order of each pair that stays, with no way down but for a new leaf.
-    /// Where memory for the map that holds them is refused, nothing has changed. Where an insertion
-    /// is, its pair is handed back with the pairs that were not asked; those before it that are to
-    /// stay are here.
+    /// O(n log n) at most; the pairs that stay are inserted in their order into a new map. It fails
+    /// only if an allocation, a clone of a key or a summary fails. If the first allocation fails,
+    /// the map is unchanged. Otherwise the error returns the pair that was not inserted and the
+    /// pairs for which the closure was not called, and the map has those before them that stay.
     pub fn retain<F: FnMut(&K, &mut V) -> bool>(
         &mut self,
         f: F,
@@ -48,16 +48,16 @@ impl<K: Key, V: Drop, A: Argument<K>> BPlusTreeMap<K, V, A> {
         }
     }
 
-    /// Removes the pairs whose key is not below `lo` and is below `hi`, where they are given, and
+    /// Removes the pairs whose key is not below `lo` and is below `hi`, if they are given, and
     /// returns how many there were. If it fails, nothing changes.
     ///
     /// It searches for both ends in O(log n) comparisons. Then each leaf on either side stays as it
     /// is, but for a few at the gap: O(n / 32) for n pairs, and O(1) for each pair that is removed.
     /// Before that it allocates the nodes above the leaves, clones the first key of each leaf and
-    /// computes a summary of its keys, and it fails if one of these does. If no removal can fail, as
-    /// `clones_never_fail` and `never_fails` say, it does not fail: it removes the pairs one by one
-    /// where at most n / 32 are removed or where memory is refused. If there is no such pair, it
-    /// takes no memory and cannot fail. If all pairs are removed, it allocates one leaf.
+    /// computes a summary of its keys, and it fails if one of these does. If no removal can fail,
+    /// as `clones_never_fail` and `never_fails` say, it does not fail: it removes the pairs one by
+    /// one where at most n / 32 are removed or if an allocation fails. If there is no such pair, it
+    /// allocates nothing and cannot fail. If all pairs are removed, it allocates one leaf.
     pub fn remove_range<'b>(
         &mut self,
         lo: Option<&'b K>,

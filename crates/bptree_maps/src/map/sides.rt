@@ -50,7 +50,7 @@ impl<K: Drop, V: Drop> Side<K, V> for ValueSide {
     }
 }
 
-/// One side of a pair, as it is lent.
+/// One side of a pair, as it is borrowed.
 pub trait LentSide<K, V>: Side<K, V> {
     /// This side. The other is not read.
     fn show<'a>(key: &'a K, value: &'a V) -> &'a Self::Part
@@ -69,21 +69,21 @@ impl<K: Drop, V: Drop> LentSide<K, V> for ValueSide {
     }
 }
 
-/// The keys of a map that are left, in their order. No step takes memory.
+/// The keys of a map that are left, in their order. No step allocates.
 pub type Keys<'a, K, V, A> = SideIter<'a, K, V, A, KeySide>;
 
-/// The values of a map that are left, in the order of their keys. No step takes memory.
+/// The values of a map that are left, in the order of their keys. No step allocates.
 pub type Values<'a, K, V, A> = SideIter<'a, K, V, A, ValueSide>;
 
-/// The keys of an owned map that are left, in their order. A step drops the value beside, takes no
-/// memory, and is not refused; what is left is dropped with it.
+/// The keys of an owned map that are left, in their order. A step drops the value beside, allocates
+/// nothing, and is not refused; what is left is dropped with it.
 pub type IntoKeys<K, V, A> = IntoSideIter<K, V, A, KeySide>;
 
 /// The values of an owned map that are left, in the order of their keys. A step drops the key
-/// beside, takes no memory, and is not refused; what is left is dropped with it.
+/// beside, allocates nothing, and is not refused; what is left is dropped with it.
 pub type IntoValues<K, V, A> = IntoSideIter<K, V, A, ValueSide>;
 
-/// One side of the pairs that are left, in the order of their keys. No step takes memory, and none
+/// One side of the pairs that are left, in the order of their keys. No step allocates, and none
 /// reads the other side.
 #[derive(Drop)]
 pub struct SideIter<'a, K: Key, V: Drop, A: Argument<K>, S: LentSide<K, V>> {
@@ -101,7 +101,9 @@ impl<'a, K: Key, V: Drop, A: Argument<K>, S: LentSide<K, V>> Model for SideIter<
 }
 
 impl<'a, K: Key, V: Drop, A: Argument<K>, S: LentSide<K, V>> SideIter<'a, K, V, A, S> {
-    /// Those of the pairs that an iterator has left.
+    /// The keys, or the values, of the pairs that an iterator has left.
+    ///
+    /// O(1). It allocates nothing and cannot fail.
     pub fn new(pairs: Iter<'a, K, V, A>) -> Self
         ensures { result ≡ map S.part pairs.entry }
     {
@@ -178,7 +180,7 @@ impl<'a, K: Key, V: Drop, A: Argument<K>, S: LentSide<K, V>> Listed for SideIter
 }
 
 /// One side of the pairs of an owned map that are left, in the order of their keys. A step drops
-/// what stands beside, takes no memory, and is not refused; what is left is dropped with it.
+/// what stands beside, allocates nothing, and is not refused; what is left is dropped with it.
 #[derive(Drop)]
 pub struct IntoSideIter<K: Key, V: Drop, A: Argument<K>, S: Side<K, V>> {
     pairs: IntoIter<K, V, A>,

@@ -17,13 +17,12 @@ use bptree_keys::key::Key;
 use bptree_tree::InsertError;
 
 impl<K: Key, V: Drop, A: Argument<K>> BPlusTreeMap<K, V, A> {
-    /// Changes the value at `k` by a closure, or puts `v` at `k` where no key equals it. It answers
-    /// whether a pair was added.
+    /// Changes the value at `k` by a closure, or inserts `v` if no key equals `k`. It returns
+    /// whether a pair was inserted.
     ///
-    /// Where a key equals `k`, it stays, its value alone is changed, and `k` and `v` are dropped:
-    /// that takes no memory and is never refused. A pair with a new key can be refused, as by
-    /// `insert`: then it is handed back, and nothing has changed. It costs what `get_mut` does, and
-    /// where no key equals `k` what `insert` does too.
+    /// O(log n). If a key equals `k`, that key is kept, `k` and `v` are dropped, and the call
+    /// allocates nothing and cannot fail. Else it fails where `insert` does; then `k` and `v` are
+    /// returned, and the map is unchanged.
     pub fn upsert_with<F: FnOnce(&mut V)>(
         &mut self,
         k: K,
@@ -49,15 +48,13 @@ impl<K: Key, V: Drop, A: Argument<K>> BPlusTreeMap<K, V, A> {
         }
     }
 
-    /// The value at `k`, for writing. Where no key equals `k`, a closure makes a value, and the
-    /// pair is put first.
+    /// The value at `k`, for writing. If no key equals `k`, a closure makes a value, and the pair
+    /// is inserted first.
     ///
-    /// Where a key equals `k`, it stays, `k` is dropped, and the closure is not called. That takes
-    /// no memory and is never refused. It costs what `contains_key` and `get_mut` do.
-    ///
-    /// Else the pair is put as by `insert`, and its value is found by a clone of `k`, on one more
-    /// descent. The clone can fail, and so can the insertion. Then the pair is returned in the
-    /// error, and nothing has changed. The error is `Full` if the map has `usize::MAX` pairs.
+    /// O(log n): two descents if a key equals `k`, and else three. If a key equals `k`, it is kept,
+    /// `k` is dropped, the closure is not called, and the call allocates nothing and cannot fail.
+    /// Else `k` is cloned, and the call fails if the clone or the insertion fails; then the pair is
+    /// returned, and the map is unchanged. The error is `Full` if the map has `usize::MAX` pairs.
     pub fn get_or_insert_with<F: FnOnce() -> V>(
         &mut self,
         k: K,
@@ -107,10 +104,9 @@ impl<K: Key, V: Drop, A: Argument<K>> BPlusTreeMap<K, V, A> {
         self.get_mut(k).unwrap()
     }
 
-    /// Changes each value by a closure, in the order of the keys.
+    /// Changes each value by a closure, in the order of the keys. Keys and summaries are unchanged.
     ///
-    /// It costs a call a pair and a step along the links for each leaf. It takes no memory and is
-    /// never refused. The keys and the summaries stay.
+    /// O(n). It allocates nothing and cannot fail.
     pub fn update_each<F: FnMut(&K, &mut V)>(&mut self, f: F)
         requires { F.IsAlwaysCallable f }
         ensures { (after : F) × ChangesInTurn F.FnMut f self.old after self.new }
@@ -118,12 +114,10 @@ impl<K: Key, V: Drop, A: Argument<K>> BPlusTreeMap<K, V, A> {
         self.inner.update_each(f);
     }
 
-    /// Changes the value of each pair by a closure whose key is not below `lo` and is below `hi`,
-    /// where they are given, in the order of the keys.
+    /// Changes the value of each pair whose key is at least `lo` and below `hi` by a closure, in
+    /// the order of the keys. `None` stands for no bound. Keys and summaries are unchanged.
     ///
-    /// Each end that is given is searched for once, from the root. Then it costs a call a pair and
-    /// a step along the links for each leaf. It takes no memory and is never refused. The keys and
-    /// the summaries stay.
+    /// O(log n + m) for m pairs. It allocates nothing and cannot fail.
     pub fn update_range<'b, F: FnMut(&K, &mut V)>(
         &mut self,
         lo: Option<&'b K>,

@@ -10,7 +10,7 @@ use bptree_keys::key::Key;
 use bptree_keys::pieces::piece_laws;
 
 // A value that is put is found at each equal key, and nowhere else. There is one key more where it
-// is new, and as many where it is not.
+// is new, and as many if it is not.
 fn finds_what_is_put<K: Key, V>()
     ensures there { (l : List (K × V)) → (k j : K) → (v : V) → IsAscending K.cmp l → K.cmp k j ≡ Equal → value K.cmp (put K.cmp l k v) j ≡ Some v }
     ensures elsewhere { (l : List (K × V)) → (k j : K) → (v : V) → IsAscending K.cmp l → K.cmp k j ≡ Less → value K.cmp (put K.cmp l k v) j ≡ value K.cmp l j }

@@ -63,7 +63,7 @@ fn counts_the_groups_of_two_leaves<K: Key, G: FromRef<K> + Key>(
     Ok(both.group_count())
 }
 
-// The size of the greatest group, be it the only one, and 0 where there is none.
+// The size of the greatest group, be it the only one, and 0 if there is none.
 fn size_of_the_greatest_group<G: Key>(summary: &GroupCount<G>) -> usize
     ensures none { IsGroupSummary G.cmp summary.now [] → result ≡ 0 }
     ensures size { (groups : List G) (g : G) → IsGroupSummary G.cmp summary.now groups → AllByRecursion (λ x. is_gt (G.cmp x g) ≡ false) groups → 0 < group_size G.cmp g groups → result ≡ group_size G.cmp g groups }
@@ -127,7 +127,7 @@ fn clones_a_summary<K: Key, G: FromRef<K> + Key>(
     Ok(copy)
 }
 
-// The keys of a group in a leaf are counted, and where there is none the answer is 0.
+// The keys of a group in a leaf are counted, and if there is none the answer is 0.
 fn counts_a_group_of_a_leaf<K: Key, V, G: FromRef<K> + Key>(
     group: G,
     keys: &[K],

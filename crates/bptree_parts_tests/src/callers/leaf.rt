@@ -80,7 +80,7 @@ fn shows_its_ends<K: Clone + Drop, V: Drop>(
     leaf.key_range()
 }
 
-// A new leaf takes 64 items and leaves the others, or takes all where there are fewer.
+// A new leaf takes 64 items and leaves the others, or takes all if there are fewer.
 fn fills_a_new_leaf<K: Drop, V: Drop, I: Iterator<Item = (K, V)>>(
     alloc: Global,
     items: &mut I,

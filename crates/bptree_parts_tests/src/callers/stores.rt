@@ -28,7 +28,7 @@ fn starts_empty<S: NodeStore>(alloc: Global) -> (S, bool)
     (store, says)
 }
 
-// So has one over slabs, with room or, where that is refused, without.
+// So has one over slabs, with room or, if that fails, without.
 fn says_that_it_is_empty<K: Key, V: Drop, A: Argument<K>>(alloc: Global, capacity: usize) -> bool
     ensures { result ≡ true }
 {
@@ -53,8 +53,8 @@ fn knows_the_sizes<S: NodeStore>() -> (u16, u16)
     (inner_n::<S>(), leaf_n::<S>())
 }
 
-// A new node stands under a number apart from one that is held, which stays held. A refusal hands
-// the node back.
+// A new node stands under a number apart from one that is held, which stays held. A failure returns
+// the node.
 fn adds_beside_a_held_number<S: NodeStore>(
     store: &mut S,
     node: Box<InnerNode<S::K, S::Argument>>,
@@ -67,7 +67,7 @@ fn adds_beside_a_held_number<S: NodeStore>(
     store.add_inner(node)
 }
 
-/// Two numbers that are held are two. There are none where memory is refused.
+/// Two numbers that are held are two. There are none if an allocation fails.
 pub fn holds_two_inner_nodes<S: NodeStore>(store: &mut S) -> Option<(InnerNodeId, InnerNodeId)>
     ensures apart { IfSome result (λ ids. ids.0.0 ≢ ids.1.0) }
     ensures held { IfSome result (λ ids. ((S.slots store.new).inner ids.0.0 ≡ Held) × ((S.slots store.new).inner ids.1.0 ≡ Held)) }

@@ -1,4 +1,4 @@
-//! A set that is lent: its keys in a `for`.
+//! A set that is borrowed: its keys in a `for`.
 ghost use Rattle.std.specs.Prelude.{◌≡◌};
 ghost use Rattle.std.specs.List.Sorted.{IsStrictlySortedBy};
 ghost use Rattle.std.specs.Map.Iter.{ShowsInOrder, deref};

@@ -11,11 +11,11 @@ use bptree_maps::map::Keys;
 use std::ops::{Bound, RangeBounds};
 
 impl<K: Key> BPlusTreeSet<K> {
-    /// The keys from a start on up to an end, in their order: each bound takes its key in, leaves
-    /// it out, or is open. Of a start above the end there are none. It takes no memory, and neither
-    /// do its steps.
+    /// The keys between two bounds, in their order. Each bound includes its key, excludes it, or is
+    /// open. If the start is above the end, there are none.
     ///
-    /// It costs what `range` does: each bound that is not open is searched for once.
+    /// O(log n) to begin: one descent for each bound that is not open. O(1) a step. `len` takes
+    /// O(1) for each leaf of the range. Neither it nor a step allocates or fails.
     pub fn range_bounds<'b>(&self, lo: Bound<&'b K>, hi: Bound<&'b K>) -> Iter<'_, K>
         ensures rest { result ≡ keys_between_bounds K.cmp self.now (given lo.entry) (given hi.entry) }
         ensures ascending { IsStrictlySortedBy K.cmp result }

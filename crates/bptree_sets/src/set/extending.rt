@@ -65,6 +65,8 @@ impl<K: Key> BPlusTreeSet<K> {
     /// what `append` allocates. If one of these fails, the clones are dropped and the set is
     /// unchanged. It returns `Full` where `extend_from_vec` does. If the slice is empty, it
     /// allocates nothing and cannot fail.
+    ///
+    /// O(m log m) to sort, and then what `append` takes.
     pub fn extend_from_slice(&mut self, keys: &[K]) -> Result<(), AppendError>
         ensures ok { OnOk result (PutsKeyClones K.cmp K.is_clone keys.now self.old self.new) }
         ensures full { (result ≡ Err Full) → AreTooManyKeys K.cmp usize.MAX keys.now self.old }

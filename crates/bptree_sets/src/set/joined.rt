@@ -36,17 +36,17 @@ pub trait Joining<K: Key> {
 }
 
 /// The keys of two sets in their order, seen as what is left of each. Of two equal keys the first
-/// set's is given, and the other is left out. No step takes memory; one takes a comparison.
+/// set's is given, and the other is left out. No step allocates; one takes a comparison.
 pub type Union<'a, K> = Joined<'a, K, InEither>;
 
 /// The keys of two sets in their order, without those that are equal, seen as what is left of each.
-/// No step takes memory; one takes a comparison for each key that it gives or passes by.
+/// No step allocates; one takes a comparison for each key that it gives or passes by.
 ///
 /// The sum of what is left of both sets is told as the most that come, where that is a number, and
 /// the difference of both as the least.
 pub type SymmetricDifference<'a, K> = Joined<'a, K, InOneAlone>;
 
-/// Keys of two sets in their order, seen as what is left of each. No step takes memory.
+/// Keys of two sets in their order, seen as what is left of each. No step allocates.
 #[derive(Drop)]
 pub struct Joined<'a, K: Key, J: Joining<K>> {
     merge: MergeIterInner<Iter<'a, K>>,

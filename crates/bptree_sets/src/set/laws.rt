@@ -12,6 +12,8 @@ use bptree_keys::key::Key;
 /// it is held, and others as before. Both leave an ascending list ascending, and what is gathered
 /// of any list is ascending: of an ascending one that list, so that `from_iter` of what `into_iter`
 /// gives is the same. It does nothing.
+///
+/// O(1). It cannot fail.
 pub fn laws_of_keys<K: Key>()
     ensures with_key { WithKeyLaws K.cmp }
     ensures without_key { WithoutKeyLaws K.cmp }
@@ -21,6 +23,8 @@ pub fn laws_of_keys<K: Key>()
 
 /// What two lists of keys share, and what one of them holds alone: where the lists ascend, so do
 /// these; and which keys they hold, by which of the lists hold them. It does nothing.
+///
+/// O(1). It cannot fail.
 pub fn laws_of_two_sets<K: Key>()
     ensures difference_order { KeepsFirstOrder K.cmp (keys_without K.cmp) }
     ensures difference { MakesDifference K.cmp (keys_without K.cmp) }

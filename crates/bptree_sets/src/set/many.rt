@@ -1,5 +1,5 @@
 //! Calls for many keys at once.
-ghost use Rattle.std.specs.Prelude.{◌≡◌, ◌≤◌, length, map, take};
+ghost use Rattle.std.specs.Prelude.{◌≡◌, ◌≤◌, Some, length, map, slice_get, take, true};
 ghost use Rattle.bptree_keys.specs.Keys.{AllInfallible};
 ghost use Rattle.bptree_maps.specs.Keys.{holds};
 ghost use Rattle.bptree_maps.specs.ManyKeys.{gone_each, keys_without_each};
@@ -33,6 +33,7 @@ impl<K: Key> BPlusTreeSet<K> {
         ensures left { self.new ≡ keys_without_each K.cmp self.old (take result keys.now) }
         ensures removed { removed.new ≡ gone_each K.cmp self.old (take result keys.now) removed.old }
         ensures infallible { AllInfallible K.is_infallible → result ≡ length keys.now }
+        ensures stops { (k : K) → slice_get keys.now result ≡ Some k → holds K.cmp self.new k ≡ true }
     {
         let mut at = 0;
         'keys: while at < keys.len() {

@@ -15,7 +15,7 @@ use bptree_keys::key::Key;
 use bptree_tree::{AppendError, InsertError, ReplaceError};
 use std::alloc::AllocError;
 
-// The key of a pair, where there is one.
+// The key of a pair, if there is one.
 fn key_alone<K: Drop>(pair: Option<(K, ())>) -> Option<K>
     ensures { result ≡ option_map (λ pair. pair.0) pair }
 {
@@ -26,10 +26,11 @@ fn key_alone<K: Drop>(pair: Option<(K, ())>) -> Option<K>
 }
 
 impl<K: Key> BPlusTreeSet<K> {
-    /// Removes the key that equals `k`, and hands it back as it was stored. Where there is none,
-    /// nothing changes and nothing can be refused.
+    /// Removes the key that equals `k`, and returns the stored key, or `None` if there is no such
+    /// key.
     ///
-    /// It costs what `remove` does, which drops that key. Where it is refused, nothing has changed.
+    /// O(log n). It fails only if a clone of a key fails; then the set is unchanged. If there is no
+    /// such key, it cannot fail.
     pub fn take(&mut self, k: &K) -> Result<Option<K>, AllocError>
         ensures ok { IfOk result (TakesKey K.cmp k.now self.old self.new) }
         ensures absent { holds K.cmp self.old k.now ≡ false → result ≡ Ok None }
@@ -68,6 +69,8 @@ impl<K: Key> BPlusTreeSet<K> {
     /// It costs an insertion a key. If one fails, the keys before it are stored, that key is
     /// returned in the error, and the rest of the iterator is dropped. A key that is present never
     /// fails. The error is `Full` if the set as it is left has `usize::MAX` keys.
+    ///
+    /// O(m log(n + m)) for m keys.
     pub fn extend<I: IntoIterator<Item = K>>(&mut self, keys: I) -> Result<(), InsertError<K, ()>>
         requires { AreFinite I.into_iter_gives I.IntoIter.can_next I.IntoIter.remaining keys }
         ensures ok { OnOk result (Extends (with_key K.cmp) I.IntoIter.next_gives I.into_iter_gives keys self.old self.new) }

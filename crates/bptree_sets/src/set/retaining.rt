@@ -16,7 +16,7 @@ use bptree_tree::InsertError;
 use std::alloc::AllocError;
 use std::mem;
 
-// The key that an insertion hands back.
+// The key that an insertion returns.
 fn key_back<K: Drop>(refusal: InsertError<K, ()>) -> K
     ensures { result ≡ (pair_of refusal).0 }
 {
@@ -27,12 +27,12 @@ fn key_back<K: Drop>(refusal: InsertError<K, ()>) -> K
 }
 
 impl<K: Key> BPlusTreeSet<K> {
-    /// Keeps the keys for which a closure answers true, in their order, and drops the others.
+    /// Keeps the keys for which a closure returns true, in their order, and drops the others.
     ///
-    /// It costs an insertion in order of each key that stays, with no way down but for a new leaf.
-    /// Where memory for the set that holds them is refused, nothing has changed. Where an insertion
-    /// is, its key is handed back with the keys that were not asked; those before it that are to
-    /// stay are here.
+    /// O(n log n) at most; the keys that stay are inserted in their order into a new set. It fails
+    /// only if an allocation or a clone of a key fails. If the first allocation fails, the set is
+    /// unchanged. Otherwise the error returns the key that was not inserted and the keys for which
+    /// the closure was not called, and the set has those before them that stay.
     pub fn retain<F: FnMut(&K) -> bool>(
         &mut self,
         mut f: F,
@@ -56,16 +56,16 @@ impl<K: Key> BPlusTreeSet<K> {
         Ok(())
     }
 
-    /// Removes the keys that are not below `lo` and are below `hi`, where they are given, and
-    /// returns how many there were. If it fails, nothing changes.
+    /// Removes the keys that are not below `lo` and are below `hi`, if they are given, and returns
+    /// how many there were. If it fails, nothing changes.
     ///
     /// It searches for both ends in O(log n) comparisons. Then each leaf on either side stays as it
     /// is, but for a few at the gap: O(n / 32) for n keys, and O(1) for each key that is removed.
     /// Before that it allocates the nodes above the leaves, clones the first key of each leaf and
-    /// computes a summary of its keys, and it fails if one of these does. If no removal can fail, as
-    /// `clones_never_fail` and `never_fails` say, it does not fail: it removes the keys one by one
-    /// where at most n / 32 are removed or where memory is refused. If there is no such key, it
-    /// takes no memory and cannot fail. If all keys are removed, it allocates one leaf.
+    /// computes a summary of its keys, and it fails if one of these does. If no removal can fail,
+    /// as `clones_never_fail` and `never_fails` say, it does not fail: it removes the keys one by
+    /// one where at most n / 32 are removed or if an allocation fails. If there is no such key, it
+    /// allocates nothing and cannot fail. If all keys are removed, it allocates one leaf.
     pub fn remove_range<'b>(
         &mut self,
         lo: Option<&'b K>,

@@ -34,15 +34,15 @@ pub trait Sieve {
 }
 
 /// The keys of a set that no key of another set equals, in their order, seen as what is left of
-/// both sets. No step takes memory.
+/// both sets. No step allocates.
 pub type Difference<'a, K> = Sifted<'a, K, Lacking>;
 
 /// The keys of a set that a key of another set equals, in their order, seen as what is left of both
-/// sets. No step takes memory.
+/// sets. No step allocates.
 pub type Intersection<'a, K> = Sifted<'a, K, Shared>;
 
 /// Keys of a set that are given by whether another set holds them, in their order, seen as what is
-/// left of both sets. No step takes memory.
+/// left of both sets. No step allocates.
 #[derive(Drop)]
 pub struct Sifted<'a, K: Key, W: Sieve> {
     by: By<'a, K>,
@@ -50,6 +50,7 @@ pub struct Sifted<'a, K: Key, W: Sieve> {
     sieve: PhantomData<W>,
 }
 
+/// How an iterator finds out whether the other set has a key.
 #[derive(Drop)]
 enum By<'a, K: Key> {
     // Each key of the first set is looked up in the other, the second.

@@ -32,6 +32,8 @@ impl<K: Key> Joining<K> for InEither {
 /// What the union of two ascending lists of keys is. It ascends. A key equals one of it exactly
 /// where it equals one of a list. The key that is found in it is the first list's where that has
 /// one, and else the second's. It does nothing.
+///
+/// O(1). It cannot fail.
 pub fn laws_of_union<K: Key>()
     ensures order { KeepsOrder K.cmp (union K.cmp) }
     ensures holds { UnionHoldsBoth K.cmp }

@@ -12,11 +12,11 @@ use bptree_stores::node_stores::NodeStore;
 use std::ops::Bound;
 
 impl<S: NodeStore> BPlusTree<S> {
-    /// The pairs from a start on up to an end, in the order of their keys: each bound takes the
-    /// pair of its key in, leaves it out, or is open. Of a start above the end there are none. It
-    /// takes no memory, and neither do its steps.
+    /// The pairs between two bounds, in the order of their keys. Each bound includes its key,
+    /// excludes it, or is open. If the start is above the end, there are none.
     ///
-    /// It costs what `range` does: each bound that is not open is searched for once, from the root.
+    /// O(log n) to begin: one descent for each bound that is not open. O(1) a step. `len` takes
+    /// O(1) for each leaf of the range. Neither it nor a step allocates or fails.
     pub fn range_bounds<'b>(&self, lo: Bound<&'b S::K>, hi: Bound<&'b S::K>) -> Iter<'_, S>
         ensures rest { result ≡ pairs_within S.K.cmp self.now.contents lo.entry hi.entry }
         ensures ascending { IsAscending S.K.cmp result }

@@ -13,12 +13,10 @@ where
     S::V: Clone,
     S::Argument: CloneArgument<S::K>,
 {
-    /// A tree of its own over a clone of the store. It has equal keys in the same order, each value
-    /// what its own clone answers, and clones of the nodes under the same numbers. It has counted
-    /// no rebalanced nodes.
+    /// A tree of equal keys in the same order, whose values are clones.
     ///
-    /// Each key, value and summary is cloned once. It is refused where a request for memory is, or
-    /// where one of these clones is; what was cloned till then is dropped.
+    /// O(n): each key, value and summary is cloned once. It fails only if an allocation or a clone
+    /// fails; then what was cloned is dropped.
     pub fn clone(&self) -> Result<Self, AllocError>
         ensures contents { IfOk result (HasClonedPairs S.K.cmp S.V.is_clone self.now) }
         ensures whole { IfOk result (IsWhole S.K.cmp S.Argument.is_summary S.slots) }

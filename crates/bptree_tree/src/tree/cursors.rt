@@ -17,8 +17,9 @@ use std::alloc::AllocError;
 pub(crate) type Shown<'t, K, V> = Result<Option<(Cursor<K>, &'t V)>, AllocError>;
 
 impl<S: NodeStore> BPlusTree<S> {
-    /// A cursor on the least key. It takes what a clone of the key takes, and of an empty tree
-    /// nothing.
+    /// A cursor on the least key, or `None` if the tree is empty.
+    ///
+    /// O(log n). It clones that key, and fails only if the clone fails.
     pub fn cursor_first(&self) -> Result<Option<Cursor<S::K>>, AllocError>
         ensures cursor { IfOk result (StandsAt S.K.cmp (slice_get self.now.contents 0)) }
         ensures empty { self.now.contents ≡ [] → result ≡ Ok None }
@@ -30,8 +31,9 @@ impl<S: NodeStore> BPlusTree<S> {
         }
     }
 
-    /// A cursor on `k`, which need not be there, and its value where it is. It takes what a clone
-    /// of `k` takes.
+    /// A cursor on `k`, which need not be present, with its value if it is.
+    ///
+    /// O(log n). It clones `k`, and fails only if the clone fails.
     pub fn get_cursor(&self, k: &S::K) -> Result<Option<(Cursor<S::K>, Option<&S::V>)>, AllocError>
         ensures cursor { IfOk result (λ answer. IsSomeAnd answer (PointsAtKey S.K.cmp self.now.contents k.now)) }
         ensures sure { S.K.is_infallible k.now → IsOk result }
@@ -40,10 +42,10 @@ impl<S: NodeStore> BPlusTree<S> {
         Ok(Some((Cursor::at(at, k)?, value)))
     }
 
-    /// A cursor on the least key that is not below `k`, and the value there. It takes what a clone
-    /// of that key takes, and where there is none it takes nothing.
+    /// A cursor on the least key that is not below `k`, with its value, or `None`.
     ///
-    /// It costs what `get` does.
+    /// O(log n). It clones that key, and fails only if the clone fails. If there is no such key, it
+    /// cannot fail.
     pub fn lower_bound(&self, k: &S::K) -> Result<Option<(Cursor<S::K>, &S::V)>, AllocError>
         ensures cursor { IfOk result (PointsAt S.K.cmp (at_least S.K.cmp self.now.contents k.now)) }
         ensures value { IfOk result (ShowsValueOf (at_least S.K.cmp self.now.contents k.now)) }
@@ -53,10 +55,10 @@ impl<S: NodeStore> BPlusTree<S> {
         Self::cursor_on(self.place_beside(k, Side::Before))
     }
 
-    /// A cursor on the least key above `k`, and the value there. It takes what a clone of that key
-    /// takes, and where there is none it takes nothing.
+    /// A cursor on the least key above `k`, with its value, or `None`.
     ///
-    /// It costs what `get` does.
+    /// O(log n). It clones that key, and fails only if the clone fails. If there is no such key, it
+    /// cannot fail.
     pub fn upper_bound(&self, k: &S::K) -> Result<Option<(Cursor<S::K>, &S::V)>, AllocError>
         ensures cursor { IfOk result (PointsAt S.K.cmp (next S.K.cmp self.now.contents k.now)) }
         ensures value { IfOk result (ShowsValueOf (next S.K.cmp self.now.contents k.now)) }

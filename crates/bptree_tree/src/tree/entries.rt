@@ -11,14 +11,18 @@ use bptree_keys::node_id::Position;
 use bptree_stores::node_stores::NodeStore;
 
 impl<S: NodeStore> BPlusTree<S> {
-    /// Whether some key equals `k`. It costs what `get` does.
+    /// Whether a key equals `k`.
+    ///
+    /// O(log n). It allocates nothing and cannot fail.
     pub fn contains_key(&self, k: &S::K) -> bool
         ensures { result ≡ has S.K.cmp self.now.contents k.now }
     {
         self.get(k).is_some()
     }
 
-    /// The pair whose key equals `k`, with the key that is stored. It costs what `get` does.
+    /// The pair whose key equals `k`, with the stored key, or `None`.
+    ///
+    /// O(log n). It allocates nothing and cannot fail.
     pub fn get_key_value(&self, k: &S::K) -> Option<(&S::K, &S::V)>
         ensures { option_map deref_pair result ≡ entry S.K.cmp self.now.contents k.now }
     {
@@ -41,14 +45,18 @@ impl<S: NodeStore> BPlusTree<S> {
         }
     }
 
-    /// The pair with the least key: the same as `first`.
+    /// The pair with the least key, or `None`. It is `first` under the name that `BTreeMap` has.
+    ///
+    /// O(log n). It allocates nothing and cannot fail.
     pub fn first_key_value(&self) -> Option<(&S::K, &S::V)>
         ensures { option_map deref_pair result ≡ slice_get self.now.contents 0 }
     {
         self.first()
     }
 
-    /// The pair with the greatest key: the same as `last`.
+    /// The pair with the greatest key, or `None`. It is `last` under the name that `BTreeMap` has.
+    ///
+    /// O(log n). It allocates nothing and cannot fail.
     pub fn last_key_value(&self) -> Option<(&S::K, &S::V)>
         ensures { option_map deref_pair result ≡ last_member self.now.contents }
     {

@@ -1,4 +1,4 @@
-//! Values of a tree that are lent for writing.
+//! Values of a tree that are borrowed for writing.
 ghost use Rattle.std.specs.Prelude.{◌≡◌, IfErr, IfOk};
 ghost use Rattle.std.specs.Borrow.{sem};
 ghost use Rattle.std.specs.Option.{option_copied_mut};

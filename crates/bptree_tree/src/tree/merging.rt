@@ -269,13 +269,13 @@ impl<S: NodeStore> BPlusTree<S> {
     ///
     /// O(n) comparisons for n pairs of both. Before a pair moves it allocates new nodes for all of
     /// them, clones a key of each leaf and computes summaries of the keys. If one of these fails,
-    /// neither tree changes. Where each key of one tree is below each key of the other and both have
-    /// at least 16 pairs, each leaf moves as it is, in O(n / 32): it compares the keys at the ends
-    /// alone, and allocates the nodes above the leaves. If the other tree has fewer than a sixteenth
-    /// of this one's pairs and no removal can fail, as `clones_never_fail` and `never_fails` say, it
-    /// inserts these one by one instead; if one fails, it takes back those before it. If either tree
-    /// is empty, it takes no memory and cannot fail. It returns `Full` exactly if both together have
-    /// more than `usize::MAX` pairs.
+    /// neither tree changes. Where each key of one tree is below each key of the other and both
+    /// have at least 16 pairs, each leaf moves as it is, in O(n / 32): it compares the keys at the
+    /// ends alone, and allocates the nodes above the leaves. If the other tree has fewer than a
+    /// sixteenth of this one's pairs and no removal can fail, as `clones_never_fail` and
+    /// `never_fails` say, it inserts these one by one instead; if one fails, it takes back those
+    /// before it. If either tree is empty, it allocates nothing and cannot fail. It returns `Full`
+    /// exactly if both together have more than `usize::MAX` pairs.
     pub fn append(&mut self, other: &mut Self) -> Result<(), AppendError>
         ensures ok { OnOk result (Appends S.K.cmp self.old other.old self.new) }
         ensures emptied { OnOk result (other.new.contents ≡ []) }

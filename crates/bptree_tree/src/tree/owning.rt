@@ -16,7 +16,7 @@ use bptree_stores::node_stores::NodeStore;
 use std::iter::{ExactSizeIterator, FusedIterator};
 use std::marker::Model;
 
-/// The pairs of an owned tree that are left, in the order of their keys. No step takes memory, and
+/// The pairs of an owned tree that are left, in the order of their keys. No step allocates, and
 /// none is refused; what is left is dropped with it.
 ///
 /// A step takes constant time: within a leaf it moves one pair alone. The first step into a leaf
@@ -41,7 +41,9 @@ impl<S: NodeStore> Model for IntoIter<S> {
 }
 
 impl<S: NodeStore> IntoIter<S> {
-    /// All pairs of the tree. It takes no memory.
+    /// All pairs of the tree. It allocates nothing.
+    ///
+    /// O(log n) to begin, and O(1) a step. It cannot fail.
     pub fn new(tree: BPlusTree<S>) -> Self
         ensures rest { result ≡ tree.contents }
         ensures ascending { IsAscending S.K.cmp tree.contents }
@@ -73,8 +75,9 @@ impl<S: NodeStore> IntoIter<S> {
 }
 
 impl<S: NodeStore> BPlusTree<S> {
-    /// The pairs in the order of their keys, each with its value. It takes no memory, and neither
-    /// do its steps.
+    /// An iterator that moves the pairs out, in the order of their keys.
+    ///
+    /// O(log n) to begin, and O(1) a step. Neither it nor a step allocates or fails.
     pub fn into_iter(self) -> IntoIter<S>
         ensures rest { result ≡ self.contents }
         ensures ascending { IsAscending S.K.cmp self.contents }

@@ -14,10 +14,9 @@ use bptree_stores::node_stores::NodeStore;
 use std::alloc::AllocError;
 
 impl<S: NodeStore> BPlusTree<S> {
-    /// A cursor on the pair at a place that is allowed for the query, and the value there; or none.
-    /// It takes what a clone of that key takes, and what the argument takes.
+    /// A cursor on the pair at an index that is allowed for the query, with its value, or `None`.
     ///
-    /// It costs what `get_by_argument` does.
+    /// O(log n). It clones that key. It fails only if the clone or the argument fails.
     pub fn cursor_by_argument(
         &self,
         query: <S::Argument as SearchArgument<S::K>>::Query,

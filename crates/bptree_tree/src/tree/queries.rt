@@ -23,11 +23,10 @@ use bptree_stores::node_stores::NodeStore;
 use std::alloc::AllocError;
 
 impl<S: NodeStore> BPlusTree<S> {
-    /// The pair at a place that is allowed for the query, or none. It takes no memory but what the
-    /// argument takes.
+    /// The pair at an index that is allowed for the query, or `None`.
     ///
-    /// The query is asked once on each level, of one node's separators and summaries, and at last
-    /// of one leaf's keys.
+    /// O(log n): one descent, which asks the argument once a level. It allocates only what the
+    /// argument allocates, and fails only if the argument does.
     pub fn get_by_argument(
         &self,
         query: <S::Argument as SearchArgument<S::K>>::Query,
@@ -43,11 +42,10 @@ impl<S: NodeStore> BPlusTree<S> {
         }
     }
 
-    /// The rank of a key, which need not be present: `Ok` where it is. It takes no memory but what
-    /// the argument takes.
+    /// The rank of a key: `Ok` if the key is present, and else `Err`, within a `Result`.
     ///
-    /// On each level the summaries of the children before the one for the key are folded, and at
-    /// last one leaf's keys.
+    /// O(log n): one descent, which asks the argument once a level. It allocates only what the
+    /// argument allocates, and fails only if the argument does.
     pub fn rank_by_argument(
         &self,
         k: &S::K,
@@ -67,13 +65,12 @@ impl<S: NodeStore> BPlusTree<S> {
         by_argument::rank_by_argument(&self.nodes, k)
     }
 
-    /// A summary of the keys that are not below `lo` and are below `hi`, where they are given; of
-    /// no keys what `Default` makes.
+    /// A summary of the keys that are at least `lo` and below `hi`, or `Default` if there are none.
+    /// `None` stands for no bound.
     ///
-    /// One way down to the node where the ways to the two ends part, and from there one for each
-    /// end. On each level the summaries of the children between the ways are summed up, and at last
-    /// the keys of one leaf for each end. So it takes the same however many pairs stand between. It
-    /// fails only where the argument does, or where room for two summaries is refused.
+    /// O(log n): one descent for each bound, whatever the number of pairs. The summaries of the
+    /// children between both descents are combined. It fails only if the argument does, or if the
+    /// allocation of room for two summaries fails.
     pub fn range_argument<'b>(
         &self,
         lo: Option<&'b S::K>,
@@ -84,11 +81,12 @@ impl<S: NodeStore> BPlusTree<S> {
         summary_between(&self.nodes, lo, hi)
     }
 
-    /// A summary of the keys from a place that is allowed for one query on, up to a place that is
-    /// allowed for another. Where there is none for the second, it goes up to the end. Where there
-    /// is none for the first, it is of no keys.
+    /// A summary of the keys from an index that is allowed for one query on, up to an index that is
+    /// allowed for another. If no index is allowed for the second query, it is of all keys from the
+    /// first one on. If none is allowed for the first, it is of no keys.
     ///
-    /// It costs a way down for each query, and then what `range_argument` does.
+    /// O(log n). It fails only if the argument does, or if the allocation of room for two summaries
+    /// fails.
     pub fn part_argument(
         &self,
         from: <S::Argument as SearchArgument<S::K>>::Query,
@@ -108,13 +106,10 @@ impl<S: NodeStore> BPlusTree<S> {
         }
     }
 
-    /// What a visitor answers on its way down, or none where it ends without an answer. It takes no
-    /// memory but what the visitor takes.
+    /// The result of a visitor on one descent, or `None` if it ends without one.
     ///
-    /// The visitor sees one node a level, from the root down: an inner node by its separators and
-    /// summaries, and at last one leaf, unless it ends before. It fails with `OutOfMemory` where
-    /// the visitor is refused memory, and with `InvalidChild` where it names a child whose number
-    /// is above the number of separators.
+    /// O(log n). It allocates only what the visitor allocates, and fails only if the visitor does,
+    /// or names a child that does not exist.
     pub fn descend_visit<W: DescendVisit<S::K, S::V, S::Argument>>(
         &self,
         visitor: W,
@@ -131,12 +126,10 @@ impl<S: NodeStore> BPlusTree<S> {
     ghost use Rattle.std.specs.Borrow.{sem};
     ghost use Rattle.bptree_tree.specs.Rows.{lends_selected};
 
-    /// The value at a place that is allowed for the query, for writing. It takes no memory but what
-    /// the argument takes.
+    /// The value at an index that is allowed for the query, for writing.
     ///
-    /// That one value alone is written, and no key, so that the summaries stay. With `NotFound`,
-    /// where no place is allowed, and with `OutOfMemory`, where the argument is refused memory,
-    /// nothing has changed.
+    /// O(log n). It fails with `NotFound` if no index is allowed, and with `OutOfMemory` if the
+    /// argument fails to allocate. Only that value is written: keys and summaries are unchanged.
     pub fn get_mut_by_argument(
         &mut self,
         query: <S::Argument as SearchArgument<S::K>>::Query,
@@ -153,11 +146,10 @@ impl<S: NodeStore> BPlusTree<S> {
 }
 
 impl<K: Key, V: Drop> BPlusTree<NodeStoreVec<K, V, Count>> {
-    /// How many keys are not below `lo` and are below `hi`, where they are given. It is never
-    /// refused.
+    /// The number of keys that are at least `lo` and below `hi`. `None` stands for no bound.
     ///
-    /// One way down for each end that is given: on each level the counts of the children before the
-    /// way are added up. So it takes the same however many pairs stand between.
+    /// O(log n): one descent for each bound, whatever the number of keys. It allocates nothing and
+    /// cannot fail.
     pub fn range_len<'b>(&self, lo: Option<&'b K>, hi: Option<&'b K>) -> usize
         ensures { result ≡ length (pairs_between K.cmp self.now.contents lo.entry hi.entry) }
     {

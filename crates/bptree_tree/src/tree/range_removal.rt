@@ -118,16 +118,16 @@ impl<S: NodeStore> BPlusTree<S> {
         }
     }
 
-    /// Removes the pairs whose key is not below `lo` and is below `hi`, where they are given, and
+    /// Removes the pairs whose key is not below `lo` and is below `hi`, if they are given, and
     /// returns how many there were. If it fails, nothing changes.
     ///
     /// It searches for both ends in O(log n) comparisons. Then each leaf on either side stays as it
     /// is, but for a few at the gap: O(n / 32) for n pairs, and O(1) for each pair that is dropped.
     /// Before that it allocates the nodes above the leaves, clones the first key of each leaf and
-    /// computes a summary of its keys, and it fails if one of these does. If no removal can fail, as
-    /// `clones_never_fail` and `never_fails` say, it does not fail: it removes the pairs one by one
-    /// where at most n / 32 are removed or where memory is refused. If there is no such pair, it
-    /// takes no memory and cannot fail. If all pairs are removed, it allocates one leaf.
+    /// computes a summary of its keys, and it fails if one of these does. If no removal can fail,
+    /// as `clones_never_fail` and `never_fails` say, it does not fail: it removes the pairs one by
+    /// one where at most n / 32 are removed or if an allocation fails. If there is no such pair, it
+    /// allocates nothing and cannot fail. If all pairs are removed, it allocates one leaf.
     pub fn remove_range<'b>(
         &mut self,
         lo: Option<&'b S::K>,

@@ -30,11 +30,11 @@ pub(crate) fn pairs_from<S: NodeStore>(tree: &Nodes<S>, part: Part) -> Iter<'_, 
 }
 
 impl<S: NodeStore> BPlusTree<S> {
-    /// The pairs whose key is not below `lo` and is below `hi`, where they are given, in the order
-    /// of their keys. It takes no memory, and neither do its steps.
+    /// The pairs whose keys are at least `lo` and below `hi`, in the order of their keys. `None`
+    /// stands for no bound.
     ///
-    /// Each end that is given is searched for once, from the root. How many pairs there are is told
-    /// when it is asked, by a step for each leaf from the one end to the other.
+    /// O(log n) to begin: one descent for each bound, whatever the number of pairs. O(1) a step.
+    /// `len` takes O(1) for each leaf of the range. Neither it nor a step allocates or fails.
     pub fn range<'b>(&self, lo: Option<&'b S::K>, hi: Option<&'b S::K>) -> Iter<'_, S>
         ensures rest { result ≡ pairs_between S.K.cmp self.now.contents lo.entry hi.entry }
         ensures ascending { IsAscending S.K.cmp result }
@@ -44,13 +44,12 @@ impl<S: NodeStore> BPlusTree<S> {
         pairs_from(&self.nodes, part)
     }
 
-    /// The first `n` pairs, or all where there are fewer, from a place on that is allowed for the
-    /// query, in the order of their keys; none where none is. It takes no memory but what the
-    /// argument takes, and its steps take none.
+    /// At most `n` pairs from an index on that is allowed for the query, in the order of their
+    /// keys. If no index is allowed, there are none.
     ///
-    /// The query is asked once on each level. How many pairs there are is told when it is asked, by
-    /// a step for each leaf of the part. The first step from the back finds the end in the same
-    /// way.
+    /// O(log n) to begin, and O(1) a step. `len` and the first step from the back take O(1) for
+    /// each leaf of the range. It fails only if the argument does. A step allocates nothing and
+    /// cannot fail.
     pub fn range_by_argument(
         &self,
         query: <S::Argument as SearchArgument<S::K>>::Query,
@@ -67,13 +66,12 @@ impl<S: NodeStore> BPlusTree<S> {
         Ok(pairs_from(&self.nodes, part))
     }
 
-    /// The pairs whose key's group equals the group, in the order of their keys. Its steps take no
-    /// memory, and it takes none but what the groups of keys take.
+    /// The pairs whose keys are in a group, in the order of their keys.
     ///
-    /// The beginning and the end of the group are searched for once each, from the root, by the
-    /// groups of separators and keys. No summary is asked, so it can be had whatever the argument
-    /// is. At most 7 groups are made of each node on the way. How many pairs there are is told when
-    /// it is asked, by a step for each leaf of the group.
+    /// O(log n) to begin: two descents, which compute the groups of at most 7 keys or separators a
+    /// node, and use no summary. O(1) a step. `len` takes O(1) for each leaf of the range. It
+    /// allocates only what the groups of keys allocate, and fails only if one of these fails. A
+    /// step allocates nothing and cannot fail.
     pub fn group_range<G: FromRef<S::K> + Key>(&self, group: &G) -> Result<Iter<'_, S>, AllocError>
         ensures rest { IfOk result (λ it. it ≡ of_group G.cmp G.group_of group.now self.now.contents) }
         ensures ascending { IfOk result (λ it. IsAscending S.K.cmp it) }
@@ -83,13 +81,12 @@ impl<S: NodeStore> BPlusTree<S> {
         Ok(pairs_from(&self.nodes, part))
     }
 
-    /// So many pairs of a group, or all where there are fewer, without its first `i`: a page of the
-    /// group. What it takes is the same as of `group_range`.
+    /// At most `n` pairs of a group, from its pair number `i` on, which counts from 0.
     ///
-    /// It costs the same as `group_range`. On the way to the first pair it also looks at the
-    /// summaries of the children before it, where these tell how many keys they stand for
-    /// (`Argument::key_count`). Where they don't, the pairs left out are walked over. The first
-    /// step from the back finds the end, by a step for each leaf of the part.
+    /// O(log n) to begin if summaries determine how many keys they are of, as those of `Count` and
+    /// `GroupCount` do, and else O(log n + i / 16). O(1) a step, but for the first one from the
+    /// back. It allocates only what the groups of keys allocate, and fails only if one of these
+    /// fails. A step allocates nothing and cannot fail.
     pub fn group_part<G: FromRef<S::K> + Key>(
         &self,
         group: &G,

@@ -15,13 +15,10 @@ use bptree_stores::node_stores::NodeStore;
 use std::alloc::AllocError;
 
 impl<S: NodeStore> BPlusTree<S> {
-    /// Removes the pair at a place that is allowed for the query, and hands it back. Where none is
-    /// found, nothing changes.
+    /// Removes the pair at an index that is allowed for the query, and returns it, or `None`.
     ///
-    /// The query is asked once on each level, as `get_by_argument` does. Each node on the way to
-    /// the leaf takes a new summary of its child, and a leaf's new separator is a clone of a key.
-    /// Both may take memory, and the argument may take some too. Then a removal can be refused, and
-    /// nothing has changed.
+    /// O(log n). It fails only if a clone of a key or the argument fails; then the tree is
+    /// unchanged, node by node.
     pub fn remove_by_argument(
         &mut self,
         query: <S::Argument as SearchArgument<S::K>>::Query,
@@ -40,10 +37,11 @@ impl<S: NodeStore> BPlusTree<S> {
         removal::remove_by_argument(&mut self.nodes, &mut self.path, query, &mut self.statistic)
     }
 
-    /// Removes the pair whose key equals `k`, and hands it back with the key that was stored. Where
-    /// no key does, nothing changes and nothing can be refused.
+    /// Removes the pair whose key equals `k`, and returns it with the stored key, or `None` if
+    /// there is no such key.
     ///
-    /// It costs what `remove` does, which drops that key. Where it is refused, nothing has changed.
+    /// O(log n). It fails only if a clone of a key or a summary fails; then the tree is unchanged,
+    /// node by node. If there is no such key, it cannot fail.
     pub fn remove_entry(&mut self, k: &S::K) -> Result<Option<(S::K, S::V)>, AllocError>
         ensures ok { IfOk result (RemovesEntry S.K.cmp k.now self.old.contents self.new.contents) }
         ensures absent { has S.K.cmp self.old.contents k.now ≡ false → result ≡ Ok None }
@@ -57,7 +55,7 @@ impl<S: NodeStore> BPlusTree<S> {
         removal::remove_entry(&mut self.nodes, &mut self.path, k, &mut self.statistic)
     }
 
-    // Removes the pair with the least key, or the one with the greatest, and hands it back.
+    // Removes the pair with the least key, or the one with the greatest, and returns it.
     fn pop_end(&mut self, end: End) -> Result<Option<(S::K, S::V)>, AllocError>
         ensures ok { IfOk result (PopsEnd (is_back end) self.old.contents self.new.contents) }
         ensures empty { self.old.contents ≡ [] → result ≡ Ok None }
@@ -70,11 +68,10 @@ impl<S: NodeStore> BPlusTree<S> {
         removal::remove_end(&mut self.nodes, &mut self.path, end, &mut self.statistic)
     }
 
-    /// Removes the pair with the least key, and hands it back: none of an empty tree, where nothing
-    /// can be refused.
+    /// Removes the pair with the least key, and returns it, or `None` if the tree is empty.
     ///
-    /// It is one way down, on which no key is compared. What a removal takes is what `remove`
-    /// takes, and where it is refused nothing has changed.
+    /// O(log n): one descent, which compares no key. It fails only if a clone of a key or a summary
+    /// fails; then the tree is unchanged, node by node. If the tree is empty, it cannot fail.
     pub fn pop_first(&mut self) -> Result<Option<(S::K, S::V)>, AllocError>
         ensures ok { IfOk result (PopsFirst self.old.contents self.new.contents) }
         ensures empty { self.old.contents ≡ [] → result ≡ Ok None }
@@ -87,11 +84,10 @@ impl<S: NodeStore> BPlusTree<S> {
         self.pop_end(End::Front)
     }
 
-    /// Removes the pair with the greatest key, and hands it back: none of an empty tree, where
-    /// nothing can be refused.
+    /// Removes the pair with the greatest key, and returns it, or `None` if the tree is empty.
     ///
-    /// It is one way down, on which no key is compared. What a removal takes is what `remove`
-    /// takes, and where it is refused nothing has changed.
+    /// O(log n): one descent, which compares no key. It fails only if a clone of a key or a summary
+    /// fails; then the tree is unchanged, node by node. If the tree is empty, it cannot fail.
     pub fn pop_last(&mut self) -> Result<Option<(S::K, S::V)>, AllocError>
         ensures ok { IfOk result (PopsLast self.old.contents self.new.contents) }
         ensures empty { self.old.contents ≡ [] → result ≡ Ok None }
@@ -104,8 +100,10 @@ impl<S: NodeStore> BPlusTree<S> {
         self.pop_end(End::Back)
     }
 
-    /// Removes all pairs. It takes memory for one leaf, before the nodes are let go: a refusal
-    /// changes nothing.
+    /// Removes all pairs.
+    ///
+    /// O(n) to drop them. It allocates one leaf, and fails only if that fails; then the tree is
+    /// unchanged, node by node.
     pub fn clear(&mut self) -> Result<(), AllocError>
         ensures whole { IsWhole S.K.cmp S.Argument.is_summary S.slots self.new }
         ensures ok { IfOk result (λ _. self.new.contents ≡ []) }

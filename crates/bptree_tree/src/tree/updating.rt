@@ -59,7 +59,7 @@ fn update_leaves<S: NodeStore, F: FnMut(&S::K, &mut S::V)>(
     update_leaf(store, at, from, back.slot, f);
 }
 
-// Changes the values between two ends, which are lent no longer than the tree.
+// Changes the values between two ends, which are borrowed no longer than the tree.
 fn update_within<'a, S: NodeStore, F: FnMut(&S::K, &mut S::V)>(
     tree: &'a mut Nodes<S>,
     lo: Option<&'a S::K>,
@@ -74,10 +74,9 @@ fn update_within<'a, S: NodeStore, F: FnMut(&S::K, &mut S::V)>(
 }
 
 impl<S: NodeStore> BPlusTree<S> {
-    /// Changes each value by a closure, in the order of the keys.
+    /// Changes each value by a closure, in the order of the keys. Keys and summaries are unchanged.
     ///
-    /// It costs a call a pair and a step along the links for each leaf. It takes no memory and is
-    /// never refused. The keys and the summaries stay.
+    /// O(n). It allocates nothing and cannot fail.
     pub fn update_each<F: FnMut(&S::K, &mut S::V)>(&mut self, f: F)
         requires { F.IsAlwaysCallable f }
         ensures { (after : F) × ChangesInTurn F.FnMut f self.old.contents after self.new.contents }
@@ -85,12 +84,10 @@ impl<S: NodeStore> BPlusTree<S> {
         update_within(&mut self.nodes, None, None, f);
     }
 
-    /// Changes the value of each pair by a closure whose key is not below `lo` and is below `hi`,
-    /// where they are given, in the order of the keys.
+    /// Changes the value of each pair whose key is at least `lo` and below `hi` by a closure, in
+    /// the order of the keys. `None` stands for no bound. Keys and summaries are unchanged.
     ///
-    /// Each end that is given is searched for once, from the root. Then it costs a call a pair and
-    /// a step along the links for each leaf. It takes no memory and is never refused. The keys and
-    /// the summaries stay.
+    /// O(log n + m) for m pairs. It allocates nothing and cannot fail.
     pub fn update_range<'b, F: FnMut(&S::K, &mut S::V)>(
         &mut self,
         lo: Option<&'b S::K>,

@@ -1,0 +1,9 @@
+use Rattle.bptree_heads.specs.Heads.{heads_decide, heads_decide_back}
+use Rattle.std.proofs.Common.{sym}
+use Rattle.bptree_heads.proofs.head.compare.Goals as goal
+
+pub returns-then-head-other_head : goal.returns-then-head-other_head
+returns-then-head-other_head c = sym (heads_decide c.args.bytes.now c.args.other.now c.args.head c.args.other_head c.requires.head c.requires.other_head c.if-head-other_head.true)
+
+pub returns-then-head-other_head-2 : goal.returns-then-head-other_head-2
+returns-then-head-other_head-2 c = sym (heads_decide_back c.args.bytes.now c.args.other.now c.args.head c.args.other_head c.requires.head c.requires.other_head c.if-head-other_head-2.true)

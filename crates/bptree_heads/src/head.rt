@@ -1,0 +1,94 @@
+//! The trait of keys that have a head, and the heads of strings and pairs.
+ghost use Rattle.std.specs.Prelude.{◌≡◌, ◌<◌, ℕ, get_or, string_bytes};
+ghost use Rattle.std.specs.declared.cmp.Ordering.TheVariants.{Less};
+ghost use Rattle.std.specs.Ordering.{nat_cmp};
+ghost use Rattle.std.specs.Cmp.Lexicographic.{slice_cmp};
+ghost use Rattle.bptree_heads.specs.Heads.{IsHeadOf, heads_decide, head_of_first};
+
+use bptree_keys::key::Key;
+use std::cmp::Ordering;
+
+/// A key with a head: a number that decides a comparison where the numbers of both keys differ.
+pub trait HasHead: Key {
+    /// Whether a number is the head of a key.
+    ghost is_head: { Self → ℕ → Type 0 };
+
+    /// The head of the key.
+    ///
+    /// O(1). It allocates nothing and cannot fail.
+    fn head(&self) -> u64
+        ensures { is_head self.now result };
+
+    ghost decides: { (x y : Self) (h k : ℕ) → is_head x h → is_head y k → h < k → Self.cmp x y ≡ Less };
+}
+
+impl HasHead for String {
+    ghost is_head = { λ text head. IsHeadOf (string_bytes text) head };
+
+    fn head(&self) -> u64 {
+        head_of(self.as_bytes())
+    }
+
+    ghost decides = { λ x y h k. heads_decide (string_bytes x) (string_bytes y) h k };
+}
+
+/// The head of a pair is that of its first part.
+impl<A: HasHead, B: Key> HasHead for (A, B) {
+    ghost is_head = { λ pair head. A.is_head pair.0 head };
+
+    fn head(&self) -> u64 {
+        self.0.head()
+    }
+
+    ghost decides = { λ x y h k first second less. head_of_first (B.cmp x.1 y.1) (A.decides x.0 y.0 h k first second less) };
+}
+
+/// The first eight bytes as a number, the first byte the greatest digit. A shorter string counts as
+/// if zeros followed it.
+///
+/// O(1). It allocates nothing and cannot fail.
+pub fn head_of(bytes: &[u8]) -> u64
+    ensures { IsHeadOf bytes.now result }
+{
+    let later = digit(bytes, 4) * 0x100_0000
+        + digit(bytes, 5) * 0x1_0000
+        + digit(bytes, 6) * 0x100
+        + digit(bytes, 7);
+    digit(bytes, 0) * 0x100_0000_0000_0000
+        + digit(bytes, 1) * 0x1_0000_0000_0000
+        + digit(bytes, 2) * 0x100_0000_0000
+        + digit(bytes, 3) * 0x1_0000_0000
+        + later
+}
+
+/// Compares two strings of bytes with their heads. The bytes are read only where both heads are
+/// equal.
+///
+/// O(1) if the heads differ, and else O(n) for strings of n bytes. It allocates nothing and cannot
+/// fail.
+#[inline(always)]
+pub fn compare(head: u64, bytes: &[u8], other_head: u64, other: &[u8]) -> Ordering
+    requires head { IsHeadOf bytes.now head }
+    requires other_head { IsHeadOf other.now other_head }
+    ensures { result ≡ slice_cmp nat_cmp bytes.now other.now }
+{
+    if head < other_head {
+        Ordering::Less
+    } else if head > other_head {
+        Ordering::Greater
+    } else {
+        bytes.cmp(other)
+    }
+}
+
+// The byte at an index, or 0 behind the last one.
+#[inline(always)]
+fn digit(bytes: &[u8], index: usize) -> u64
+    ensures digit { result ≡ get_or bytes.now index 0 }
+    ensures below { result < 256 }
+{
+    match bytes.get(index) {
+        Some(byte) => u64::from(*byte),
+        None => 0,
+    }
+}

@@ -1,0 +1,93 @@
+//! Heads that were computed by hand, and the order of strings whose heads agree or differ.
+
+use crate::head::{HasHead, head_of};
+use crate::headed::Headed;
+use std::alloc::{AllocError, Global};
+
+const HEADS: [(&str, u64); 8] = [
+    ("", 0),
+    ("a", 0x6100_0000_0000_0000),
+    ("ab", 0x6162_0000_0000_0000),
+    ("abcdefg", 0x6162_6364_6566_6700),
+    ("abcdefgh", 0x6162_6364_6566_6768),
+    ("abcdefghi", 0x6162_6364_6566_6768),
+    ("b", 0x6200_0000_0000_0000),
+    ("é", 0xc3a9_0000_0000_0000),
+];
+
+// Ascending strings. Neighbours have heads that differ, heads that agree, or one is a prefix of the
+// other; zeros at the end of a string do not change its head.
+const ASCENDING: [&str; 12] = [
+    "",
+    "\0",
+    "\0\0",
+    "a",
+    "a\0",
+    "a\0\0\0\0\0\0\0",
+    "a\0\0\0\0\0\0\0\0",
+    "abcdefgh",
+    "abcdefgha",
+    "abcdefghb",
+    "abcdefgi",
+    "é",
+];
+
+fn has_heads() -> bool {
+    let mut well = true;
+    for (text, head) in HEADS.iter() {
+        well &= head_of(text.as_bytes()) == *head;
+    }
+    well
+}
+
+fn headed(alloc: Global, text: &str) -> Result<Headed<String>, AllocError> {
+    Ok(Headed::new(String::from_str(alloc, text)?))
+}
+
+// Whether two strings are in the order of their indices, as they are and as clones, and have the
+// heads of their bytes.
+fn is_in_order(
+    alloc: Global,
+    first: (usize, &str),
+    second: (usize, &str),
+) -> Result<bool, AllocError> {
+    let order = first.0.cmp(&second.0);
+    let one = headed(alloc, first.1)?;
+    let other = headed(alloc, second.1)?;
+    let clone = other.clone()?;
+    let mut well = one.cmp(&other) == order && one.cmp(&clone) == order;
+    well &= (one == other) == order.is_eq() && one.partial_cmp(&clone) == Some(order);
+    well &= clone.head() == head_of(second.1.as_bytes());
+    well &= other.key().head() == clone.head();
+    Ok(well && one.into_key().as_str() == first.1)
+}
+
+fn are_in_order(alloc: Global) -> bool {
+    let mut well = true;
+    for (first, one) in ASCENDING.iter().enumerate() {
+        for (second, other) in ASCENDING.iter().enumerate() {
+            well &= is_in_order(alloc, (first, one), (second, other)) == Ok(true);
+        }
+    }
+    well
+}
+
+// A pair has the head of its first part, and the second part decides where the first ones are
+// equal.
+fn pairs_have_heads(alloc: Global) -> Result<bool, AllocError> {
+    let one = Headed::new((String::from_str(alloc, "abcdefghi")?, 2u64));
+    let other = Headed::new((String::from_str(alloc, "abcdefghi")?, 10u64));
+    let later = Headed::new((String::from_str(alloc, "b")?, 1u64));
+    Ok(one.head() == 0x6162_6364_6566_6768 && one < other && other < later && one != other)
+}
+
+#[test]
+fn heads_are_as_computed(rt: HostRuntime) {
+    assert!(rt; has_heads());
+}
+
+#[test]
+fn strings_and_pairs_are_in_order(rt: HostRuntime) {
+    assert!(rt; are_in_order(rt.alloc()));
+    assert!(rt; pairs_have_heads(rt.alloc()) == Ok(true));
+}

@@ -1,0 +1,7 @@
+//! Keys that carry their first bytes as a number, so that most comparisons read no other memory.
+#![tactic(auto)]
+
+pub mod head;
+#[cfg(test)]
+mod head_tests;
+pub mod headed;
