@@ -7,7 +7,9 @@ enum { KEY = 12 };
 
 static uint64_t points[7], old;
 
-typedef struct key { uint8_t bytes[KEY]; } key;
+typedef struct key {
+    uint8_t bytes[KEY];
+} key;
 
 static key key_of(uint64_t of, uint32_t player) {
     key made;

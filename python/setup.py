@@ -37,7 +37,7 @@ setup(
     ext_modules=[
         Extension(
             "sweep_bptree._native",
-            [f"native/{name}.c" for name in ("arrays", "keys", "native")],
+            [f"native/{name}.c" for name in ("arrays", "iterators", "keys", "native")],
             include_dirs=HEADERS,
             define_macros=[("Py_LIMITED_API", "0x030B0000"), ("NDEBUG", None)],
             extra_compile_args=["-std=c11", "-O2", "-g0", "-fvisibility=hidden"],

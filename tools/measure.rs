@@ -160,7 +160,12 @@ fn ends(keys: &[u64], others: &[u64]) {
 // sorted; and two maps of every second key that become one.
 fn come(sorted: &[u64], others: &[u64]) {
     let half = half_of(sorted, 0);
-    let few = || others.iter().take(sorted.len() / 200).map(|key| (*key & (u64::MAX - 1), *key));
+    let few = || {
+        others
+            .iter()
+            .take(sorted.len() / 200)
+            .map(|key| (*key & (u64::MAX - 1), *key))
+    };
     for (call, at_once, in_order) in [
         ("insertfew", false, false),
         ("extendfew", true, false),
@@ -190,7 +195,12 @@ fn come(sorted: &[u64], others: &[u64]) {
 }
 
 fn half_of(sorted: &[u64], first: usize) -> BTreeMap<u64, u64> {
-    sorted.iter().skip(first).step_by(2).map(|key| (*key, *key)).collect()
+    sorted
+        .iter()
+        .skip(first)
+        .step_by(2)
+        .map(|key| (*key, *key))
+        .collect()
 }
 
 // What calls for many keys at once are compared with: each key by itself.
@@ -205,7 +215,11 @@ fn batches(keys: &[u64], others: &[u64]) {
         sum = sum.wrapping_add(map.contains_key(key) as u64);
     }
     tell("map", "containsmany", start, others.len(), sum);
-    let new: Vec<u64> = others.iter().take(keys.len() / 100).map(|key| *key & (u64::MAX - 1)).collect();
+    let new: Vec<u64> = others
+        .iter()
+        .take(keys.len() / 100)
+        .map(|key| *key & (u64::MAX - 1))
+        .collect();
     let start = Instant::now();
     for key in &new {
         map.insert(*key, *key);
@@ -222,7 +236,10 @@ fn batches(keys: &[u64], others: &[u64]) {
 // Look-ups of keys of two parts, in groups of 500.
 fn look_up_pairs(places: &[u64]) {
     let key = |number: u64| (number / 500, number % 500);
-    let map: BTreeMap<(u64, u64), u64> = places.iter().map(|number| (key(*number), *number)).collect();
+    let map: BTreeMap<(u64, u64), u64> = places
+        .iter()
+        .map(|number| (key(*number), *number))
+        .collect();
     let again = shuffled(places);
     let start = Instant::now();
     let mut sum = 0u64;

@@ -16,9 +16,7 @@ typedef struct {
     word offset, address, physical, size_in_file, size, alignment;
 } segment; // as Elf64_Phdr
 
-typedef volatile struct {
-    word requests, blocks, given, refuse;
-} counts;
+typedef volatile struct { word requests, blocks, given, refuse; } counts;
 
 char *getenv(const char *);
 word getauxval(word);
@@ -64,8 +62,7 @@ __attribute__((constructor)) static void begin(void) {
     count->requests = count->blocks = count->given = 0;
 }
 
-#define IS_OF_PROGRAM                                                                                                                \
-    ((word)__builtin_return_address(0) >= program_begin && (word)__builtin_return_address(0) < program_end)
+#define IS_OF_PROGRAM ((word)__builtin_return_address(0) >= program_begin && (word)__builtin_return_address(0) < program_end)
 
 static int is_refused(int is_of_program) {
     if (!is_of_program) return 0;
@@ -93,9 +90,7 @@ void *realloc(void *from, word size) {
     return to;
 }
 
-void *aligned_alloc(word align, word size) {
-    return is_refused(IS_OF_PROGRAM) ? 0 : counted(__libc_memalign(align, size), IS_OF_PROGRAM);
-}
+void *aligned_alloc(word align, word size) { return is_refused(IS_OF_PROGRAM) ? 0 : counted(__libc_memalign(align, size), IS_OF_PROGRAM); }
 
 int posix_memalign(void **to, word align, word size) {
     void *from = is_refused(IS_OF_PROGRAM) ? 0 : counted(__libc_memalign(align, size), IS_OF_PROGRAM);

@@ -217,7 +217,7 @@ static int columns_begin(Columns *columns, Map *map, PyObject *const *bounds, bo
     if (map->holder == HOLDS_ANY) n = bptree_dict_values(&map->any, (size_t)from, columns->values, room);
     columns->n = n;
     for (size_t i = 0; i < n; i++) {
-        PyObject *key = map->holder == HOLDS_ANY ? key_of_entry(columns->values[i]) : NULL;
+        PyObject *key = map->holder == HOLDS_ANY ? entry_at(columns->values[i])->key : NULL;
         PyObject *value = with_values ? value_of(map, columns->values[i]) : NULL;
         Py_XINCREF(key);
         Py_XINCREF(value);

@@ -21,7 +21,7 @@ enum {
     CODE_NUMBER = 0x30, /* of zero and of positive numbers; negative ones have 0x20 */
     CODE_HUGE = 0x40,
     CODE_INFINITY = 0x41,
-    CODE_STR = 0x50,
+    CODE_STR = KEY_OF_STR,
     CODE_BYTES = 0x51,
     CODE_DATE = 0x52,
     CODE_NAIVE = 0x53,
@@ -54,17 +54,6 @@ int keys_begin(void) {
     Py_DECREF(module);
     bool is_whole = date_type && days_name && seconds_name && microseconds_name && naive_epoch && aware_epoch;
     return is_whole ? 0 : -1;
-}
-
-void bytes_begin(Bytes *bytes) {
-    bytes->at = bytes->own;
-    bytes->n = 0;
-    bytes->room = sizeof bytes->own;
-    bytes->culprit = NULL;
-}
-
-void bytes_end(Bytes *bytes) {
-    if (bytes->at != bytes->own) PyMem_Free(bytes->at);
 }
 
 int bytes_grow(Bytes *bytes, size_t more) {
@@ -259,8 +248,8 @@ static int encode_tuple(Bytes *bytes, PyObject *key) {
 }
 
 bool key_is_by_index(PyObject *key) {
-    return !PyLong_Check(key) && !PyUnicode_Check(key) && !PyFloat_Check(key) && !PyBytes_Check(key) && !PyTuple_Check(key)
-        && key != Py_None && PyIndex_Check(key);
+    return !PyLong_Check(key) && !PyUnicode_Check(key) && !PyFloat_Check(key) && !PyBytes_Check(key) && !PyTuple_Check(key) && key != Py_None &&
+           PyIndex_Check(key);
 }
 
 static int encode_any(Bytes *bytes, PyObject *key, bool is_part) {
@@ -298,9 +287,8 @@ void key_raise(const Bytes *bytes) {
         PyErr_SetString(PyExc_ValueError, "nan cannot be ordered, so it is not a key");
         return;
     }
-    PyErr_Format(PyExc_TypeError,
-        "a key is None, a number, a str, a bytes, a date, a datetime or a tuple of these, and no object of %R",
-        (PyObject *)Py_TYPE(bytes->culprit));
+    PyErr_Format(PyExc_TypeError, "a key is None, a number, a str, a bytes, a date, a datetime or a tuple of these, and no object of %R",
+                 (PyObject *)Py_TYPE(bytes->culprit));
 }
 
 /* The spot of an integer, or of a number between it and the integer below. */
@@ -346,8 +334,4 @@ int key_spot_of_int(PyObject *key, bool is_signed, uint64_t *word) {
     if (*word != UINT64_MAX || !PyErr_Occurred()) return SPOT_AT;
     PyErr_Clear();
     return SPOT_BEHIND;
-}
-
-PyObject *key_of_word(uint64_t word, bool is_signed) {
-    return is_signed ? PyLong_FromLongLong((long long)(word ^ FIRST_BIT)) : PyLong_FromUnsignedLongLong(word);
 }

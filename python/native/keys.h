@@ -21,14 +21,26 @@ typedef struct Bytes {
    no key, and no exception is set. */
 enum { KEY_FAILED = -1, KEY_GOOD = 0, KEY_NONE = 1 };
 
+/* The first byte of a str. Behind it is its UTF-8, if the str is no part of a tuple. */
+enum { KEY_OF_STR = 0x50 };
+
 /* The spot of a key among the integers of a map: at a word, before that word, or behind all words. */
 enum { SPOT_AT, SPOT_BEFORE, SPOT_BEHIND };
 
 /* Finds the types of dates. Returns -1 and sets an exception if that fails. */
 int keys_begin(void);
 
-void bytes_begin(Bytes *bytes);
-void bytes_end(Bytes *bytes);
+static inline void bytes_begin(Bytes *bytes) {
+    bytes->at = bytes->own;
+    bytes->n = 0;
+    bytes->room = sizeof bytes->own;
+    bytes->culprit = NULL;
+}
+
+static inline void bytes_end(Bytes *bytes) {
+    if (bytes->at != bytes->own) PyMem_Free(bytes->at);
+}
+
 /* Makes room for more bytes. Returns KEY_FAILED if there is no memory, and nothing has changed. */
 int bytes_grow(Bytes *bytes, size_t more);
 
@@ -47,6 +59,8 @@ int key_spot(const Bytes *bytes, bool is_signed, uint64_t *word);
 /* The same of an object of type int itself. It runs no code, and sets no exception. */
 int key_spot_of_int(PyObject *key, bool is_signed, uint64_t *word);
 /* The int of a word. NULL if there is no memory. */
-PyObject *key_of_word(uint64_t word, bool is_signed);
+static inline PyObject *key_of_word(uint64_t word, bool is_signed) {
+    return is_signed ? PyLong_FromLongLong((long long)(word ^ UINT64_C(1) << 63)) : PyLong_FromUnsignedLongLong(word);
+}
 
 #endif

@@ -4,7 +4,8 @@
 
    While all keys are ints of 64 bits, the map of numbers holds them, each with its value's address.
    The first other key moves all pairs to the map of byte strings. That holds the bytes of each key
-   (keys.h) and the address of an entry: the key object and its value.
+   (keys.h) and the address of an entry: the key object and its value. The first bytes, if they are
+   those of all keys, are held once, beside the map: it compares eight bytes of a key as a number.
 
    Code of the caller can run when a key is encoded, when a reference is dropped, and when an object
    is made that the garbage collector tracks. So a key is encoded before the map is read, references
@@ -13,19 +14,13 @@
 #include "maps.h"
 #include <string.h>
 
-enum { BLOCK = 64, FIRST_BLOCK = 8 };
+/* BLOCK and FEW_WORDS are of pairs or words that are read at a time. */
+enum { BLOCK = 64, FEW_WORDS = 32, FEW_KEYS = 64 };
 
-/* A key and its value, which is NULL in a set. */
-typedef struct Entry {
-    PyObject *key, *value;
-} Entry;
-
-static PyTypeObject *map_type, *set_type, *walk_type;
+static PyTypeObject *map_type, *set_type;
 /* A KeyError, which popitem raises if there is no pair. It is a TypeError too, which popitem of a
    dict raises if an index is given. */
 static PyObject *empty_error;
-
-static Entry *entry_at(uint64_t word) { return (Entry *)(uintptr_t)word; }
 
 size_t length_of(Map *map) {
     if (map->holder == HOLDS_NONE) return 0;
@@ -64,37 +59,40 @@ void free_holder(Map *map) {
     map->holder = HOLDS_NONE;
 }
 
-/* Takes the pairs out of a map, which is empty then. */
-static Map take_out(Map *map) {
-    Map old = *map;
+/* The pairs of a map, or those that were taken out of one. */
+typedef struct Held {
+    Holder holder;
+    bptree numbers;
+    bptree_dict any;
+} Held;
+
+static Held held_of(const Map *map) { return (Held){map->holder, map->numbers, map->any}; }
+
+/* The values or entries from an index on, as words: BLOCK at most. */
+static __attribute__((noinline)) size_t words_from(const Held *held, size_t place, uint64_t *words, size_t n) {
+    uint64_t keys[BLOCK];
+    if (held->holder == HOLDS_NONE) return 0;
+    if (held->holder == HOLDS_ANY) return bptree_dict_values(&held->any, place, words, n);
+    return bptree_copy(&held->numbers, place, keys, n, words, n);
+}
+
+/* Takes all pairs out of a map, drops their references, and frees what held them. Maps in maps are
+   freed in each other, some thousands of them deep, so this needs little of the stack. */
+static void drop_all(Map *map) {
+    Held old = held_of(map);
+    uint64_t words[FEW_WORDS];
     map->holder = HOLDS_NONE;
     map->numbers = (bptree){0};
     map->any = (bptree_dict){0};
     map->version++;
-    return old;
-}
-
-/* The values or entries from an index on, as words. */
-static size_t words_from(Map *map, size_t place, uint64_t *words, size_t n) {
-    bptree_pair first, pairs[BLOCK];
-    if (map->holder == HOLDS_NONE) return 0;
-    if (map->holder == HOLDS_ANY) return bptree_dict_values(&map->any, place, words, n);
-    if (!bptree_at(&map->numbers, place, &first)) return 0;
-    size_t count = bptree_range(&map->numbers, first.key, pairs, n < BLOCK ? n : BLOCK);
-    for (size_t i = 0; i < count; i++) words[i] = pairs[i].value;
-    return count;
-}
-
-/* Drops the references of pairs that were taken out, and frees what held them. */
-static void drop_all(Map *old) {
-    uint64_t words[BLOCK];
-    for (size_t place = 0, n; (n = words_from(old, place, words, BLOCK)); place += n) {
+    for (size_t place = 0, n; (n = words_from(&old, place, words, FEW_WORDS)); place += n) {
         for (size_t i = 0; i < n; i++) {
-            if (old->holder == HOLDS_ANY) drop_entry(entry_at(words[i]));
+            if (old.holder == HOLDS_ANY) drop_entry(entry_at(words[i]));
             else Py_XDECREF(object_at(words[i]));
         }
     }
-    free_holder(old);
+    if (is_by_words(old.holder)) bptree_free(&old.numbers);
+    if (old.holder == HOLDS_ANY) bptree_dict_free(&old.any);
 }
 
 void *make_array(size_t n, size_t size) {
@@ -154,9 +152,16 @@ static void batch_end(Batch *batch, bool with_entries) {
     PyMem_Free(batch->records);
 }
 
-/* Makes a batch what a map holds, and drops no reference of what it held. 1: some keys are equal,
-   and nothing has changed. */
-static int batch_load(Batch *batch, Map *map) {
+/* How many bytes two keys have in common at their beginning: `most` at most. */
+static size_t n_common(const uint8_t *one, size_t n, const uint8_t *other, size_t m, size_t most) {
+    size_t i = 0;
+    while (i < n && i < m && i < most && one[i] == other[i]) i++;
+    return i;
+}
+
+/* Makes a batch what a map holds, and drops no reference of what it held. All its keys begin with
+   the given bytes, which are not in the batch. 1: some keys are equal, and nothing has changed. */
+static int batch_load(Batch *batch, Map *map, const uint8_t *shared, size_t n_shared) {
     bptree_dict any = {0};
     if (!bptree_dict_new(&any)) return no_memory();
     bool is_loaded = bptree_dict_load(&any, batch->bytes.at, batch->bytes.n, batch->records, batch->n);
@@ -167,12 +172,109 @@ static int batch_load(Batch *batch, Map *map) {
     free_holder(map);
     map->any = any;
     map->holder = HOLDS_ANY;
+    memmove(map->shared, shared, n_shared);
+    map->n_shared = (uint8_t)n_shared;
     map->version++;
     return 0;
 }
 
-/* Moves all pairs of a map of numbers to a map of byte strings. On failure nothing has changed. */
-static int widen(Map *map) {
+/* Takes the bytes that all keys of a batch share out of it, and of a key that is stored next if one
+   is given. Returns how many. */
+static size_t batch_share(Batch *batch, const Bytes *next, uint8_t *shared) {
+    const uint8_t *key = batch->bytes.at, *first = next ? next->at : key;
+    size_t n = next ? next->n : batch->n ? batch->records[0].length : 0;
+    /* (a key alone shares its kind) */
+    size_t most = batch->n ? MOST_SHARED : 1;
+    if (n > most) n = most;
+    for (size_t i = 0; i < batch->n && n; i++) {
+        n = n_common(first, n, key, batch->records[i].length, n);
+        key += batch->records[i].length;
+    }
+    memcpy(shared, first, n);
+    uint8_t *to = batch->bytes.at;
+    key = to;
+    for (size_t i = 0; i < batch->n && n; i++) {
+        size_t length = batch->records[i].length;
+        memmove(to, key + n, length - n);
+        to += length - n;
+        key += length;
+        batch->records[i].length = length - n;
+    }
+    batch->bytes.n -= n * batch->n;
+    return n;
+}
+
+/* Makes a batch of whole keys what a map holds, as batch_load does. */
+static int batch_load_all(Batch *batch, Map *map, const Bytes *next) {
+    uint8_t shared[MOST_SHARED];
+    size_t n_shared = batch_share(batch, next, shared);
+    int result = batch_load(batch, map, shared, n_shared);
+    if (!result) map->shared_since = batch->n;
+    return result;
+}
+
+/* Holds all keys of a map of byte strings without the given bytes, with which they begin: more or
+   fewer of them than before. On failure nothing has changed. */
+static int share(Map *map, const uint8_t *shared, size_t n_shared) {
+    size_t n = length_of(map), before = map->n_shared;
+    size_t more = before > n_shared ? before - n_shared : 0, fewer = n_shared > before ? n_shared - before : 0;
+    Batch batch;
+    Bytes page, *bytes = &batch.bytes;
+    bptree_record records[BLOCK];
+    bytes_begin(&page);
+    int result = batch_begin(&batch, n);
+    while (batch.n < n && !result) {
+        size_t count = bptree_dict_page(&map->any, batch.n, page.at, page.room, records, n - batch.n < BLOCK ? n - batch.n : BLOCK);
+        const uint8_t *key = page.at;
+        if (!count) result = bytes_grow(&page, page.room + 1);
+        for (size_t i = 0; i < count && !result; i++) {
+            size_t length = records[i].length;
+            result = bytes_grow(bytes, more + length);
+            if (result) break;
+            memcpy(bytes->at + bytes->n, map->shared + n_shared, more);
+            memcpy(bytes->at + bytes->n + more, key + fewer, length - fewer);
+            bytes->n += more + length - fewer;
+            key += length;
+            batch.records[batch.n++] = (bptree_record){more + length - fewer, records[i].value};
+        }
+    }
+    if (!result) result = batch_load(&batch, map, shared, n_shared);
+    bytes_end(&page);
+    batch_end(&batch, false);
+    return result;
+}
+
+/* Shares no more bytes than a key has that is stored next. At least half of the bytes are given up at
+   a time, so that this is seldom. On failure nothing has changed. */
+static int share_fewer(Map *map, const Bytes *next) {
+    uint8_t shared[MOST_SHARED];
+    size_t n = n_common(map->shared, map->n_shared, next->at, next->n, MOST_SHARED);
+    if (n == map->n_shared) return 0;
+    if (n > map->n_shared / 2) n = map->n_shared / 2;
+    memcpy(shared, map->shared, n);
+    return share(map, shared, n);
+}
+
+/* Shares all bytes that the keys have in common, each time that there are twice as many keys, and not
+   before there are FEW_KEYS. If there is no memory for that, the map stays as it is. */
+static void share_more(Map *map) {
+    size_t n = length_of(map), n_first = 0, n_last = 0, before = map->n_shared;
+    if (n < FEW_KEYS || n / 2 < map->shared_since) return;
+    uint8_t shared[MOST_SHARED], first[MOST_SHARED], last[MOST_SHARED];
+    uint64_t word;
+    map->shared_since = n;
+    bptree_dict_first(&map->any, first, MOST_SHARED - before, &n_first, &word);
+    bptree_dict_last(&map->any, last, MOST_SHARED - before, &n_last, &word);
+    size_t more = n_common(first, n_first, last, n_last, MOST_SHARED - before);
+    if (!more) return;
+    memcpy(shared, map->shared, before);
+    memcpy(shared + before, first, more);
+    if (share(map, shared, before + more)) PyErr_Clear();
+}
+
+/* Moves all pairs of a map of numbers to a map of byte strings, in which a key is stored next. On
+   failure nothing has changed. */
+static int widen(Map *map, const Bytes *next) {
     size_t n = length_of(map);
     bptree_pair *pairs = is_of_numbers(map) ? all_pairs(map, n) : make_array(0, 1);
     if (!pairs) return -1;
@@ -183,7 +285,7 @@ static int widen(Map *map) {
         result = key ? batch_add(&batch, key, object_at(pairs[i].value)) : -1;
         Py_XDECREF(key);
     }
-    if (!result) result = batch_load(&batch, map);
+    if (!result) result = batch_load_all(&batch, map, next);
     batch_end(&batch, result != 0);
     /* (each entry has a reference to its value that the map of numbers had before) */
     for (size_t i = 0; i < n && !result; i++) Py_XDECREF(object_at(pairs[i].value));
@@ -205,48 +307,84 @@ int shift(Map *map) {
 
 /* ---- one key */
 
-/* What finds a key: a spot in a map of numbers, or its bytes in a map of byte strings. NO_KEY: the
-   object is not a key. */
-enum { AT_WORD = SPOT_AT, BEFORE_WORD = SPOT_BEFORE, BEHIND_ALL = SPOT_BEHIND, BY_BYTES, NO_KEY };
+/* What finds a key: a spot in a map of numbers, or bytes in a map of byte strings, if the key begins
+   with the shared bytes; else it is before or behind all keys. NO_KEY: the object is not a key. */
+enum { AT_WORD = SPOT_AT, BEFORE_WORD = SPOT_BEFORE, BEHIND_ALL = SPOT_BEHIND, BEFORE_ALL, BY_BYTES, NO_KEY };
+
+/* A key that is looked up. */
+typedef struct Probe {
+    uint64_t word;
+    const uint8_t *at; /* the bytes behind the shared ones: of the encoding, or of a str */
+    size_t n;
+    Bytes bytes; /* the encoding, or nothing if no search needs it */
+} Probe;
+
+/* Compares the first bytes of a key with the shared ones, but for some bytes that are known to be equal. */
+static int locate_bytes(const Map *map, const uint8_t *at, size_t n, size_t n_equal, Probe *probe) {
+    size_t m = map->n_shared - n_equal;
+    int order = memcmp(at, map->shared + n_equal, n < m ? n : m);
+    if (order || n < m) return order > 0 ? BEHIND_ALL : BEFORE_ALL;
+    probe->at = at + m;
+    probe->n = n - m;
+    return BY_BYTES;
+}
 
 /* Returns one of these, or -1 with an exception. Code of the caller may run before the map is read,
    and not after. */
-static int locate(Map *map, PyObject *key, Bytes *bytes, uint64_t *word) {
-    bytes_begin(bytes);
-    if (PyLong_CheckExact(key) && is_of_numbers(map)) return key_spot_of_int(key, is_signed(map), word);
-    int result = key_encode(bytes, key);
+static int locate(Map *map, PyObject *key, Probe *probe) {
+    bytes_begin(&probe->bytes);
+    if (PyLong_CheckExact(key) && is_of_numbers(map)) return key_spot_of_int(key, is_signed(map), &probe->word);
+    bool are_strs = map->holder == HOLDS_ANY && map->n_shared && map->shared[0] == KEY_OF_STR;
+    if (are_strs && (PyUnicode_CheckExact(key) || PyUnicode_Check(key))) {
+        /* (the UTF-8 of a str is compared in its own memory) */
+        Py_ssize_t n;
+        const char *from = PyUnicode_AsUTF8AndSize(key, &n);
+        if (from) return locate_bytes(map, (const uint8_t *)from, (size_t)n, 1, probe);
+        PyErr_Clear();
+    }
+    int result = key_encode(&probe->bytes, key);
     if (result) return result == KEY_NONE ? NO_KEY : -1;
     if (map->holder == HOLDS_NONE) return BEHIND_ALL;
-    return map->holder == HOLDS_ANY ? BY_BYTES : key_spot(bytes, is_signed(map), word);
+    if (is_of_numbers(map)) return key_spot(&probe->bytes, is_signed(map), &probe->word);
+    return locate_bytes(map, probe->bytes.at, probe->bytes.n, 0, probe);
 }
 
 int find(Map *map, PyObject *key, uint64_t *found) {
-    Bytes bytes;
-    uint64_t word;
-    int where = locate(map, key, &bytes, &word), result = where < 0 ? -1 : 0;
-    if (where == AT_WORD) result = bptree_get(&map->numbers, word, found);
-    if (where == BY_BYTES) result = bptree_dict_get(&map->any, bytes.at, bytes.n, found);
-    bytes_end(&bytes);
+    Probe probe;
+    if (PyLong_CheckExact(key) && is_of_numbers(map)) {
+        return key_spot_of_int(key, is_signed(map), &probe.word) == SPOT_AT && bptree_get(&map->numbers, probe.word, found);
+    }
+    int where = locate(map, key, &probe), result = where < 0 ? -1 : 0;
+    if (where == AT_WORD) result = bptree_get(&map->numbers, probe.word, found);
+    if (where == BY_BYTES) result = bptree_dict_get(&map->any, probe.at, probe.n, found);
+    bytes_end(&probe.bytes);
     return result;
 }
 
-PyObject *value_of(const Map *map, uint64_t word) { return map->holder == HOLDS_ANY ? entry_at(word)->value : object_at(word); }
-
-PyObject *key_of_entry(uint64_t word) { return entry_at(word)->key; }
+/* How many keys are smaller than one that was located, and whether it is there. */
+static size_t rank_at(Map *map, int where, const Probe *probe, bool *is_there) {
+    size_t smaller = 0;
+    *is_there = false;
+    if (where == AT_WORD) *is_there = bptree_rank(&map->numbers, probe->word, &smaller);
+    if (where == BEFORE_WORD) bptree_rank(&map->numbers, probe->word, &smaller);
+    if (where == BEHIND_ALL) smaller = length_of(map);
+    if (where == BY_BYTES) *is_there = bptree_dict_rank(&map->any, probe->at, probe->n, &smaller);
+    return smaller;
+}
 
 Py_ssize_t rank_of(Map *map, PyObject *key, bool *is_there) {
-    Bytes bytes;
-    uint64_t word;
-    size_t smaller = 0;
-    int where = locate(map, key, &bytes, &word);
-    *is_there = false;
-    if (where == AT_WORD) *is_there = bptree_rank(&map->numbers, word, &smaller);
-    if (where == BEFORE_WORD) bptree_rank(&map->numbers, word, &smaller);
-    if (where == BEHIND_ALL) smaller = length_of(map);
-    if (where == BY_BYTES) *is_there = bptree_dict_rank(&map->any, bytes.at, bytes.n, &smaller);
-    if (where == NO_KEY) key_raise(&bytes);
-    bytes_end(&bytes);
+    Probe probe;
+    int where = locate(map, key, &probe);
+    size_t smaller = rank_at(map, where, &probe, is_there);
+    if (where == NO_KEY) key_raise(&probe.bytes);
+    bytes_end(&probe.bytes);
     return where < 0 || where == NO_KEY ? -1 : (Py_ssize_t)smaller;
+}
+
+size_t rank_of_bytes(Map *map, const Bytes *bytes, bool *is_there) {
+    Probe probe;
+    int where = locate_bytes(map, bytes->at, bytes->n, 0, &probe);
+    return rank_at(map, where, &probe, is_there);
 }
 
 /* Stores at a word of the map of numbers. */
@@ -260,11 +398,11 @@ static int put_word(Map *map, uint64_t word, PyObject *value) {
     return 0;
 }
 
-static int put_bytes(Map *map, const Bytes *bytes, PyObject *key, PyObject *value) {
+static int put_bytes(Map *map, const Probe *probe, PyObject *key, PyObject *value) {
     uint64_t old = 0;
     Entry *entry = make_entry(key, value);
     if (!entry) return -1;
-    bptree_result code = bptree_dict_put(&map->any, bytes->at, bytes->n, word_of(entry), &old);
+    bptree_result code = bptree_dict_put(&map->any, probe->at, probe->n, word_of(entry), &old);
     if (code == BPTREE_NO_MEMORY) {
         drop_entry(entry);
         return no_memory();
@@ -277,7 +415,7 @@ static int put_bytes(Map *map, const Bytes *bytes, PyObject *key, PyObject *valu
         entry->key = gone->key;
         gone->key = given;
         drop_entry(gone);
-    }
+    } else share_more(map);
     return 0;
 }
 
@@ -315,29 +453,33 @@ int put(Map *map, PyObject *key, PyObject *value) {
         int result = put_int(map, key, value);
         if (result <= 0) return result;
     }
-    Bytes bytes;
-    int where = locate(map, key, &bytes, &word), result;
-    if (where == NO_KEY) key_raise(&bytes);
+    Probe probe;
+    int where = locate(map, key, &probe), result = 0;
+    if (where == NO_KEY) key_raise(&probe.bytes);
     if (where < 0 || where == NO_KEY) result = -1;
-    else if (where == AT_WORD && bptree_contains(&map->numbers, word)) result = put_word(map, word, value);
+    else if (where == BY_BYTES) result = put_bytes(map, &probe, key, value);
+    else if (where == AT_WORD && bptree_contains(&map->numbers, probe.word)) result = put_word(map, probe.word, value);
     else {
         /* (to encode a large int makes objects, so the map is looked at again after that) */
-        result = bytes.n ? 0 : key_encode(&bytes, key);
-        if (!result && map->holder != HOLDS_ANY) result = widen(map);
-        if (!result) result = put_bytes(map, &bytes, key, value);
+        if (!probe.bytes.n) result = key_encode(&probe.bytes, key);
+        if (!result) result = map->holder == HOLDS_ANY ? share_fewer(map, &probe.bytes) : widen(map, &probe.bytes);
+        if (!result) {
+            locate_bytes(map, probe.bytes.at, probe.bytes.n, 0, &probe);
+            result = put_bytes(map, &probe, key, value);
+        }
     }
-    bytes_end(&bytes);
+    bytes_end(&probe.bytes);
     return result;
 }
 
 int take(Map *map, PyObject *key, PyObject **value) {
-    Bytes bytes;
-    uint64_t word, old = 0;
-    int where = locate(map, key, &bytes, &word);
+    Probe probe;
+    uint64_t old = 0;
+    int where = locate(map, key, &probe);
     bptree_result code = BPTREE_ABSENT;
-    if (where == AT_WORD) code = bptree_del(&map->numbers, word, &old);
-    if (where == BY_BYTES) code = bptree_dict_del(&map->any, bytes.at, bytes.n, &old);
-    bytes_end(&bytes);
+    if (where == AT_WORD) code = bptree_del(&map->numbers, probe.word, &old);
+    if (where == BY_BYTES) code = bptree_dict_del(&map->any, probe.at, probe.n, &old);
+    bytes_end(&probe.bytes);
     if (code == BPTREE_NO_MEMORY) return no_memory();
     if (where < 0) return -1;
     if (code == BPTREE_ABSENT) return 0;
@@ -373,8 +515,7 @@ static int hold_at(Map *map, size_t place, PyObject **key, PyObject **value) {
     return 0;
 }
 
-/* Makes a pair of two references that are the caller's, and are not then. */
-static PyObject *pair_of(PyObject *key, PyObject *value) {
+PyObject *pair_of(PyObject *key, PyObject *value) {
     PyObject *pair = key && value ? PyTuple_Pack(2, key, value) : NULL;
     Py_XDECREF(key);
     Py_XDECREF(value);
@@ -408,7 +549,7 @@ static int take_at(Map *map, size_t place, PyObject **key, PyObject **value) {
     uint64_t old = 0;
     bptree_pair pair;
     if (map->holder == HOLDS_ANY) {
-        if (bptree_dict_remove_at(&map->any, place, &old) != BPTREE_REMOVED) return no_memory();
+        if (bptree_dict_del_at(&map->any, place, &old) != BPTREE_REMOVED) return no_memory();
         Entry *entry = entry_at(old);
         *key = entry->key;
         *value = entry->value;
@@ -416,7 +557,7 @@ static int take_at(Map *map, size_t place, PyObject **key, PyObject **value) {
     } else {
         bptree_at(&map->numbers, place, &pair);
         if (!(*key = key_of_word(pair.key, is_signed(map)))) return -1;
-        bptree_remove_at(&map->numbers, place, &pair);
+        bptree_del_at(&map->numbers, place, &pair);
         *value = object_at(pair.value);
     }
     map->version++;
@@ -486,180 +627,10 @@ static PyObject *list_of_slice(Map *map, int what, PyObject *slice) {
     return list;
 }
 
-/* ---- iterators */
-
-/* The keys from one key on to another one, with an index of both while the map is unchanged. After
-   a change the iterator goes on from the key that it returned last. So a block of pairs needs no
-   references: it is read only while the map is unchanged. */
-typedef struct Walk {
-    PyObject_HEAD
-    Map *map; /* NULL: the end was reached */
-    int what;
-    bool is_back, is_start_in, is_bound_in, is_start_word, is_word_signed;
-    uint64_t version, start_word; /* start_word: the key to go on from, in place of `start` */
-    PyObject *start, *bound;      /* the key to go on from, and the last one: NULL for none */
-    size_t place, end;            /* the indices that are not in a block yet */
-    size_t at, count, room;       /* of the block: the next pair, how many; how many the next takes */
-    bptree_pair pairs[BLOCK];     /* of a map of byte strings the values are the entries */
-} Walk;
-
-/* How many keys are below an end of a range, or all or none of them if there is no such end. */
-static Py_ssize_t count_below(Map *map, PyObject *end, bool is_in, Py_ssize_t without) {
-    bool is_there;
-    if (!end) return without;
-    Py_INCREF(end);
-    Py_ssize_t count = rank_of(map, end, &is_there);
-    Py_DECREF(end);
-    return count < 0 ? -1 : count + (is_there && is_in);
-}
-
-/* Finds the indices of both ends. Returns -1 with an exception. To encode a key may run code that
-   uses this iterator. */
-static int walk_find(Walk *walk, Map *map) {
-    if (walk->is_start_word) {
-        if (!(walk->start = key_of_word(walk->start_word, walk->is_word_signed))) return -1;
-        walk->is_start_word = false;
-    }
-    PyObject *low = walk->is_back ? walk->bound : walk->start, *high = walk->is_back ? walk->start : walk->bound;
-    bool is_low_out = walk->is_back ? !walk->is_bound_in : !walk->is_start_in;
-    bool is_high_in = walk->is_back ? walk->is_start_in : walk->is_bound_in;
-    Py_XINCREF(high);
-    Py_ssize_t from = count_below(map, low, is_low_out, 0);
-    Py_ssize_t to = from < 0 ? -1 : count_below(map, high, is_high_in, PY_SSIZE_T_MAX);
-    Py_XDECREF(high);
-    if (to < 0) return -1;
-    walk->place = (size_t)from;
-    walk->end = (size_t)to;
-    walk->version = map->version;
-    walk->at = walk->count = 0;
-    walk->room = FIRST_BLOCK;
-    return 0;
-}
-
-/* Reads the next block. Returns whether there is one. */
-static bool walk_read(Walk *walk) {
-    Map *map = walk->map;
-    size_t length = length_of(map);
-    if (walk->end > length) walk->end = length;
-    size_t n = walk->end > walk->place ? walk->end - walk->place : 0;
-    n = n < walk->room ? n : walk->room;
-    walk->at = walk->count = 0;
-    walk->room = walk->room * 2 < BLOCK ? walk->room * 2 : BLOCK;
-    if (!n) return false;
-    size_t place = walk->is_back ? walk->end - n : walk->place;
-    if (map->holder == HOLDS_ANY) {
-        /* (entries and keys lie anywhere in memory, so they are asked for early) */
-        uint64_t words[BLOCK];
-        walk->count = bptree_dict_values(&map->any, place, words, n);
-        for (size_t i = 0; i < walk->count; i++) {
-            walk->pairs[walk->is_back ? walk->count - 1 - i : i].value = words[i];
-            __builtin_prefetch(entry_at(words[i]));
-        }
-    } else {
-        bptree_pair first = {0, 0};
-        bptree_at(&map->numbers, walk->is_back ? walk->end - 1 : place, &first);
-        walk->count = walk->is_back ? bptree_range_back(&map->numbers, first.key, walk->pairs, n)
-                                    : bptree_range(&map->numbers, first.key, walk->pairs, n);
-    }
-    if (walk->is_back) walk->end -= walk->count;
-    else walk->place += walk->count;
-    return walk->count > 0;
-}
-
-static PyObject *walk_next(PyObject *self) {
-    Walk *walk = (Walk *)self;
-    Map *map = walk->map;
-    if (!map) return NULL;
-    if (walk->version != map->version) {
-        Py_INCREF((PyObject *)map);
-        int result = walk_find(walk, map);
-        Py_DECREF((PyObject *)map);
-        if (result) return NULL;
-    }
-    /* (the search may have run code that reached the end of this iterator) */
-    if (!walk->map || (walk->at == walk->count && !walk_read(walk))) {
-        Py_CLEAR(walk->map);
-        return NULL;
-    }
-    bptree_pair pair = walk->pairs[walk->at++];
-    PyObject *key = NULL, *value = NULL, *old = walk->start;
-    if (map->holder == HOLDS_ANY) {
-        key = entry_at(pair.value)->key;
-        value = entry_at(pair.value)->value;
-        if (walk->at + 3 < walk->count) __builtin_prefetch(entry_at(walk->pairs[walk->at + 3].value)->key);
-        Py_INCREF(key);
-        Py_INCREF(key);
-        walk->start = key;
-        walk->is_start_word = false;
-    } else {
-        key = walk->what == VALUES ? NULL : key_of_word(pair.key, is_signed(map));
-        value = object_at(pair.value);
-        if (!key && walk->what != VALUES) {
-            walk->at--;
-            return NULL;
-        }
-        walk->start = NULL;
-        walk->start_word = pair.key;
-        walk->is_word_signed = is_signed(map);
-        walk->is_start_word = true;
-    }
-    walk->is_start_in = false;
-    Py_XINCREF(value);
-    Py_XDECREF(old);
-    return part_of(walk->what, key, value);
-}
-
-static int walk_traverse(PyObject *self, visitproc visit, void *arg) {
-    Walk *walk = (Walk *)self;
-    Py_VISIT(Py_TYPE(self));
-    Py_VISIT((PyObject *)walk->map);
-    Py_VISIT(walk->start);
-    Py_VISIT(walk->bound);
-    return 0;
-}
-
-static int walk_clear(PyObject *self) {
-    Walk *walk = (Walk *)self;
-    Py_CLEAR(walk->map);
-    Py_CLEAR(walk->start);
-    Py_CLEAR(walk->bound);
-    return 0;
-}
-
-static void walk_dealloc(PyObject *self) {
-    PyTypeObject *type = Py_TYPE(self);
-    PyObject_GC_UnTrack(self);
-    walk_clear(self);
-    PyObject_GC_Del(self);
-    Py_DECREF(type);
-}
-
-/* An iterator from one end to the other, each of them a key or NULL. */
-static Walk *walk_over(Map *map, int what, bool is_back, PyObject *low, bool is_low_in, PyObject *high, bool is_high_in) {
-    Walk *walk = PyObject_GC_New(Walk, walk_type);
-    if (!walk) return NULL;
-    PyObject *start = is_back ? high : low, *bound = is_back ? low : high;
-    Py_INCREF((PyObject *)map);
-    Py_XINCREF(start);
-    Py_XINCREF(bound);
-    walk->map = map;
-    walk->what = what;
-    walk->is_back = is_back;
-    walk->start = start;
-    walk->bound = bound;
-    walk->is_start_in = is_back ? is_high_in : is_low_in;
-    walk->is_bound_in = is_back ? is_low_in : is_high_in;
-    walk->is_start_word = walk->is_word_signed = false;
-    walk->start_word = 0;
-    PyObject_GC_Track((PyObject *)walk);
-    if (!walk_find(walk, map)) return walk;
-    Py_DECREF((PyObject *)walk);
-    return NULL;
-}
-
 /* ---- arguments */
 
-int arguments(const char *call, PyObject *const *given, Py_ssize_t n, PyObject *keywords, const char *const *names, Py_ssize_t least, PyObject **found) {
+int arguments(const char *call, PyObject *const *given, Py_ssize_t n, PyObject *keywords, const char *const *names, Py_ssize_t least,
+              PyObject **found) {
     Py_ssize_t most = 0, named = keywords ? PyTuple_Size(keywords) : 0;
     for (; names[most]; most++) found[most] = most < n ? given[most] : NULL;
     if (n > most || n < least) {
@@ -681,6 +652,16 @@ int arguments(const char *call, PyObject *const *given, Py_ssize_t n, PyObject *
 
 /* ---- what maps and sets share */
 
+/* How many keys are below an end of a range, or all or none of them if there is no such end. */
+static Py_ssize_t count_below(Map *map, PyObject *end, bool is_in, Py_ssize_t without) {
+    bool is_there;
+    if (!end) return without;
+    Py_INCREF(end);
+    Py_ssize_t count = rank_of(map, end, &is_there);
+    Py_DECREF(end);
+    return count < 0 ? -1 : count + (is_there && is_in);
+}
+
 /* (subclasses in Python alone are made: their deallocation bounds the depth of maps in maps) */
 static PyObject *make(PyTypeObject *type, bool has_values) {
     if (type == map_type || type == set_type) return PyErr_Format(PyExc_TypeError, "only a subclass in Python is made");
@@ -692,10 +673,11 @@ static PyObject *make(PyTypeObject *type, bool has_values) {
 
 static int shared_traverse(PyObject *self, visitproc visit, void *arg) {
     Map *map = (Map *)self;
+    Held held = held_of(map);
     uint64_t words[BLOCK];
     Py_VISIT(Py_TYPE(self));
     if (is_of_numbers(map) && !map->has_values) return 0;
-    for (size_t place = 0, n; (n = words_from(map, place, words, BLOCK)); place += n) {
+    for (size_t place = 0, n; (n = words_from(&held, place, words, BLOCK)); place += n) {
         for (size_t i = 0; i < n; i++) {
             if (map->holder == HOLDS_ANY) Py_VISIT(entry_at(words[i])->key);
             Py_VISIT(map->holder == HOLDS_ANY ? entry_at(words[i])->value : object_at(words[i]));
@@ -705,8 +687,7 @@ static int shared_traverse(PyObject *self, visitproc visit, void *arg) {
 }
 
 static int shared_clear(PyObject *self) {
-    Map old = take_out((Map *)self);
-    drop_all(&old);
+    drop_all((Map *)self);
     return 0;
 }
 
@@ -726,11 +707,11 @@ static int shared_contains(PyObject *self, PyObject *key) {
     return find((Map *)self, key, &word);
 }
 
-static PyObject *shared_iter(PyObject *self) { return (PyObject *)walk_over((Map *)self, KEYS, false, NULL, true, NULL, true); }
+static PyObject *shared_iter(PyObject *self) { return walk_over((Map *)self, KEYS, false, NULL, true, NULL, true); }
 
 static PyObject *shared_reversed(PyObject *self, PyObject *none) {
     (void)none;
-    return (PyObject *)walk_over((Map *)self, KEYS, true, NULL, true, NULL, true);
+    return walk_over((Map *)self, KEYS, true, NULL, true, NULL, true);
 }
 
 static PyObject *shared_clear_call(PyObject *self, PyObject *none) {
@@ -803,7 +784,7 @@ static PyObject *some(PyObject *self, PyObject *const *found, int what) {
     for (int i = 0; i < 2 && both && !result; i++) result = truth(PyTuple_GetItem(both, i), &is_in[i]);
     Py_XDECREF(both);
     PyObject *low = found[0] == Py_None ? NULL : found[0], *high = found[1] == Py_None ? NULL : found[1];
-    return result ? NULL : (PyObject *)walk_over((Map *)self, what, is_back, low, is_in[0], high, is_in[1]);
+    return result ? NULL : walk_over((Map *)self, what, is_back, low, is_in[0], high, is_in[1]);
 }
 
 static PyObject *shared_irange(ARGUMENTS) {
@@ -823,11 +804,10 @@ static PyObject *shared_islice(ARGUMENTS) {
     bool is_some = PySlice_AdjustIndices((Py_ssize_t)length_of(map), &from, &to, step) > 0;
     PyObject *low = is_some ? part_at(map, KEYS, (size_t)from) : NULL;
     PyObject *high = low ? part_at(map, KEYS, (size_t)to - 1) : NULL;
-    Walk *walk = is_some && !high ? NULL : walk_over(map, KEYS, is_back, low, true, high, true);
-    if (walk && !is_some) Py_CLEAR(walk->map);
+    PyObject *walk = high ? walk_over(map, KEYS, is_back, low, true, high, true) : NULL;
     Py_XDECREF(low);
     Py_XDECREF(high);
-    return (PyObject *)walk;
+    return is_some ? walk : walk_over_nothing(map);
 }
 
 static int what_of(const Map *map, PyObject *what) {
@@ -847,7 +827,7 @@ static PyObject *shared_walk(ARGUMENTS) {
     bool is_back = false;
     int what = what_of((Map *)self, found[0]);
     if (what < 0 || truth(found[1], &is_back)) return NULL;
-    return (PyObject *)walk_over((Map *)self, what, is_back, NULL, true, NULL, true);
+    return walk_over((Map *)self, what, is_back, NULL, true, NULL, true);
 }
 
 /* What is at an index or a slice of them. */
@@ -863,11 +843,22 @@ static PyObject *shared_at(ARGUMENTS) {
     return what < 0 ? NULL : part_by((Map *)self, what, found[1]);
 }
 
+/* Makes what another map holds, or held, what a map holds. */
+static void hold_as(Map *map, const Map *other) {
+    map->holder = other->holder;
+    map->numbers = other->numbers;
+    map->any = other->any;
+    map->shared_since = other->shared_since;
+    map->n_shared = other->n_shared;
+    memmove(map->shared, other->shared, MOST_SHARED);
+    map->version++;
+}
+
 static PyObject *shared_swap(PyObject *self, PyObject *given) {
     if (!PyObject_TypeCheck(given, Py_TYPE(self))) return PyErr_Format(PyExc_TypeError, "_swap() takes an object of the same type");
     Map *map = (Map *)self, *other = (Map *)given, old = *map;
-    map->holder = other->holder, map->numbers = other->numbers, map->any = other->any, map->version++;
-    other->holder = old.holder, other->numbers = old.numbers, other->any = old.any, other->version++;
+    hold_as(map, other);
+    hold_as(other, &old);
     Py_RETURN_NONE;
 }
 
@@ -893,7 +884,8 @@ static int copy_any(Map *map, Map *from) {
             }
         }
     }
-    if (!result) result = batch_load(&batch, map);
+    if (!result) result = batch_load(&batch, map, from->shared, from->n_shared);
+    if (!result) map->shared_since = from->shared_since;
     batch_end(&batch, result != 0);
     return result;
 }
@@ -955,7 +947,8 @@ static int load_ints(Map *map, PyObject *members, Py_ssize_t n, bool as_signed) 
     }
     if (!result) result = load_numbers(map, as_signed ? HOLDS_SIGNED : HOLDS_UNSIGNED, pairs, (size_t)n);
     PyMem_Free(pairs);
-    for (size_t place = 0, more; !result && (more = words_from(map, place, words, BLOCK)); place += more) {
+    Held held = held_of(map);
+    for (size_t place = 0, more; !result && (more = words_from(&held, place, words, BLOCK)); place += more) {
         for (size_t i = 0; i < more; i++) Py_XINCREF(object_at(words[i]));
     }
     return result;
@@ -971,7 +964,7 @@ static int load_any(Map *map, PyObject *members, Py_ssize_t n) {
         if (result) result = -1;
     }
     /* (the keys may have run code) */
-    if (!result) result = length_of(map) ? 1 : batch_load(&batch, map);
+    if (!result) result = length_of(map) ? 1 : batch_load_all(&batch, map, NULL);
     batch_end(&batch, result != 0);
     return result;
 }
@@ -1131,50 +1124,63 @@ static PyObject *set_subscript(PyObject *self, PyObject *index) { return part_by
 /* ---- the types */
 
 static PyMethodDef shared_methods[] = {
-    PLAIN("rank", shared_rank, METH_O, "rank($self, key, /)\n--\n\n"
-        "The number of keys that are less than a key, which need not be there. O(log n).\n\n"
-        ">>> SortedSet([10, 20, 30]).rank(20), SortedMap(a=1, b=2).rank('c')\n(1, 2)"),
-    PLAIN("bisect_left", shared_rank, METH_O, "bisect_left($self, key, /)\n--\n\n"
-        "The number of keys that are less than a key, as `rank`. O(log n).\n\n"
-        ">>> SortedSet([10, 20, 30]).bisect_left(20.5)\n2"),
-    PLAIN("bisect_right", shared_bisect_right, METH_O, "bisect_right($self, key, /)\n--\n\n"
-        "The number of keys that are not greater than a key. O(log n).\n\n"
-        ">>> SortedSet([10, 20, 30]).bisect_right(20)\n2"),
-    PLAIN("bisect", shared_bisect_right, METH_O, "bisect($self, key, /)\n--\n\n"
-        "The number of keys that are not greater than a key, as `bisect_right`. O(log n).\n\n"
-        ">>> SortedMap(a=1, b=2).bisect('a')\n1"),
-    NAMED("index", shared_index, "index($self, key, /, start=None, stop=None)\n--\n\n"
-        "The index of a key. It raises ValueError if the key is absent, or if its index is outside the\n"
-        "given ones. O(log n).\n\n>>> SortedSet([10, 20, 30]).index(20)\n1"),
-    PLAIN("rank_many", shared_rank_many, METH_O, "rank_many($self, keys, /)\n--\n\n"
-        "The number of smaller keys for each key of an array, as an `array.array` of type 'q'. The keys\n"
-        "are 64-bit integers of an object with the buffer protocol. O(m log n) for m keys, and less than\n"
-        "`rank` for each, since 16 keys go down the tree side by side.\n\n"
-        ">>> from array import array\n>>> SortedSet([10, 20, 30]).rank_many(array('q', [25, 10])).tolist()\n[2, 0]"),
-    PLAIN("del_many", shared_del_many, METH_O, "del_many($self, keys, /)\n--\n\n"
-        "Removes the keys of an array, and returns how many were there. The keys are those of\n"
-        "`rank_many`. If an allocation fails, MemoryError is raised and no key is removed, unless some\n"
-        "key of the map is no 64-bit integer: then the keys before the one that failed may be removed.\n"
-        "O(m log(n + m)) for m keys.\n\n"
-        ">>> from array import array\n>>> numbers = SortedSet([10, 20, 30])\n>>> numbers.del_many(array('q', [20, 25, 20])), numbers\n(1, SortedSet([10, 30]))"),
-    NAMED("keys_array", shared_keys_array, "keys_array($self, minimum=None, maximum=None)\n--\n\n"
-        "The keys that are at least the minimum and less than the maximum, as an `array.array` of type\n"
-        "'q', or 'Q' if one of them is above 2**63 - 1. None is no bound. It raises TypeError if one of\n"
-        "these keys is not of type `int` itself, and OverflowError if neither type has room for all.\n"
-        "O(log n), and O(1) a key.\n\n"
-        ">>> SortedSet([10, 20, 30]).keys_array(15).tolist()\n[20, 30]"),
-    NAMED("range_len", shared_range_len, "range_len($self, minimum=None, maximum=None)\n--\n\n"
-        "The number of keys that are at least the minimum and less than the maximum. None is no bound.\n"
-        "O(log n).\n\n>>> SortedSet([10, 20, 30]).range_len(10, 30)\n2"),
-    NAMED("irange", shared_irange, "irange($self, minimum=None, maximum=None, inclusive=(True, True), reverse=False)\n--\n\n"
-        "An iterator over the keys between two keys. `inclusive` says for each whether it is included.\n"
-        "None is no bound. O(log n) to begin, and O(1) a key.\n\n"
-        ">>> list(SortedSet([10, 20, 30]).irange(10, 30, (True, False), reverse=True))\n[20, 10]"),
-    NAMED("islice", shared_islice, "islice($self, start=None, stop=None, reverse=False)\n--\n\n"
-        "An iterator over the keys of a slice of indices. O(log n) to begin, and O(1) a key.\n\n"
-        ">>> list(SortedSet('abcd').islice(1, 3))\n['b', 'c']"),
-    PLAIN("clear", shared_clear_call, METH_NOARGS, "clear($self, /)\n--\n\nRemoves all keys. It never fails. O(n).\n\n"
-        ">>> numbers = SortedSet([1, 2])\n>>> numbers.clear()\n>>> len(numbers)\n0"),
+    PLAIN("rank", shared_rank, METH_O,
+          "rank($self, key, /)\n--\n\n"
+          "The number of keys that are less than a key, which need not be there. O(log n).\n\n"
+          ">>> SortedSet([10, 20, 30]).rank(20), SortedMap(a=1, b=2).rank('c')\n(1, 2)"),
+    PLAIN("bisect_left", shared_rank, METH_O,
+          "bisect_left($self, key, /)\n--\n\n"
+          "The number of keys that are less than a key, as `rank`. O(log n).\n\n"
+          ">>> SortedSet([10, 20, 30]).bisect_left(20.5)\n2"),
+    PLAIN("bisect_right", shared_bisect_right, METH_O,
+          "bisect_right($self, key, /)\n--\n\n"
+          "The number of keys that are not greater than a key. O(log n).\n\n"
+          ">>> SortedSet([10, 20, 30]).bisect_right(20)\n2"),
+    PLAIN("bisect", shared_bisect_right, METH_O,
+          "bisect($self, key, /)\n--\n\n"
+          "The number of keys that are not greater than a key, as `bisect_right`. O(log n).\n\n"
+          ">>> SortedMap(a=1, b=2).bisect('a')\n1"),
+    NAMED("index", shared_index,
+          "index($self, key, /, start=None, stop=None)\n--\n\n"
+          "The index of a key. It raises ValueError if the key is absent, or if its index is outside the\n"
+          "given ones. O(log n).\n\n>>> SortedSet([10, 20, 30]).index(20)\n1"),
+    PLAIN("rank_many", shared_rank_many, METH_O,
+          "rank_many($self, keys, /)\n--\n\n"
+          "The number of smaller keys for each key of an array, as an `array.array` of type 'q'. The keys\n"
+          "are 64-bit integers of an object with the buffer protocol. O(m log n) for m keys, and less than\n"
+          "`rank` for each, since 16 keys go down the tree side by side.\n\n"
+          ">>> from array import array\n>>> SortedSet([10, 20, 30]).rank_many(array('q', [25, 10])).tolist()\n[2, 0]"),
+    PLAIN("del_many", shared_del_many, METH_O,
+          "del_many($self, keys, /)\n--\n\n"
+          "Removes the keys of an array, and returns how many were there. The keys are those of\n"
+          "`rank_many`. If an allocation fails, MemoryError is raised and no key is removed, unless some\n"
+          "key of the map is no 64-bit integer: then the keys before the one that failed may be removed.\n"
+          "O(m log(n + m)) for m keys.\n\n"
+          ">>> from array import array\n>>> numbers = SortedSet([10, 20, 30])\n>>> numbers.del_many(array('q', [20, 25, 20])), numbers\n(1, "
+          "SortedSet([10, 30]))"),
+    NAMED("keys_array", shared_keys_array,
+          "keys_array($self, minimum=None, maximum=None)\n--\n\n"
+          "The keys that are at least the minimum and less than the maximum, as an `array.array` of type\n"
+          "'q', or 'Q' if one of them is above 2**63 - 1. None is no bound. It raises TypeError if one of\n"
+          "these keys is not of type `int` itself, and OverflowError if neither type has room for all.\n"
+          "O(log n), and O(1) a key.\n\n"
+          ">>> SortedSet([10, 20, 30]).keys_array(15).tolist()\n[20, 30]"),
+    NAMED("range_len", shared_range_len,
+          "range_len($self, minimum=None, maximum=None)\n--\n\n"
+          "The number of keys that are at least the minimum and less than the maximum. None is no bound.\n"
+          "O(log n).\n\n>>> SortedSet([10, 20, 30]).range_len(10, 30)\n2"),
+    NAMED("irange", shared_irange,
+          "irange($self, minimum=None, maximum=None, inclusive=(True, True), reverse=False)\n--\n\n"
+          "An iterator over the keys between two keys. `inclusive` says for each whether it is included.\n"
+          "None is no bound. O(log n) to begin, and O(1) a key.\n\n"
+          ">>> list(SortedSet([10, 20, 30]).irange(10, 30, (True, False), reverse=True))\n[20, 10]"),
+    NAMED("islice", shared_islice,
+          "islice($self, start=None, stop=None, reverse=False)\n--\n\n"
+          "An iterator over the keys of a slice of indices. O(log n) to begin, and O(1) a key.\n\n"
+          ">>> list(SortedSet('abcd').islice(1, 3))\n['b', 'c']"),
+    PLAIN("clear", shared_clear_call, METH_NOARGS,
+          "clear($self, /)\n--\n\nRemoves all keys. It never fails. O(n).\n\n"
+          ">>> numbers = SortedSet([1, 2])\n>>> numbers.clear()\n>>> len(numbers)\n0"),
     PLAIN("__reversed__", shared_reversed, METH_NOARGS, "__reversed__($self, /)\n--\n\nAn iterator over the keys, the greatest one first."),
     PLAIN("_list", shared_list, METH_O, "All keys (0), values (1) or pairs (2), as they are at one moment."),
     NAMED("_walk", shared_walk, "An iterator over all keys (0), values (1) or pairs (2)."),
@@ -1185,94 +1191,124 @@ static PyMethodDef shared_methods[] = {
 };
 
 static PyMethodDef map_methods[] = {
-    NAMED("get", map_get, "get($self, key, /, default=None)\n--\n\nThe value at a key, or the default if the key is absent. O(log n).\n\n"
-        ">>> SortedMap(a=1).get('a'), SortedMap(a=1).get('b', 0)\n(1, 0)"),
-    NAMED("get_many", map_get_many, "get_many($self, keys, /, default=None)\n--\n\n"
-        "A list of the value at each key of an array, or of the default if a key is absent. The keys\n"
-        "are 64-bit integers of an object with the buffer protocol, such as `array.array` or an array of\n"
-        "numpy. O(m log n) for m keys, and less than `get` for each, since 16 keys descend the tree side\n"
-        "by side.\n\n"
-        ">>> from array import array\n>>> SortedMap({1: 'a', 2: 'b'}).get_many(array('q', [2, 3]))\n['b', None]"),
-    NAMED("put_many", map_put_many, "put_many($self, keys, values, /)\n--\n\n"
-        "Stores the value at each key of an array. The keys are those of `get_many`. The values are a\n"
-        "list or a tuple of any objects, or 64-bit integers or floats of an object with the buffer\n"
-        "protocol. Of equal keys the last value stays. If an array is none of these, TypeError or\n"
-        "ValueError is raised and the map is unchanged. If an allocation fails, MemoryError is raised\n"
-        "and the map is unchanged, unless no type of an array has room for all keys, those of the map\n"
-        "and the new ones: then the pairs before the one that failed may be stored. O(m log(n + m)) for\n"
-        "m keys.\n\n"
-        ">>> from array import array\n>>> names = SortedMap({1: 'a'})\n>>> names.put_many(array('q', [2, 1]), ['c', 'b'])\n>>> names\nSortedMap({1: 'b', 2: 'c'})"),
-    NAMED("items_arrays", map_items_arrays, "items_arrays($self, minimum=None, maximum=None)\n--\n\n"
-        "The keys as `keys_array` returns them, and their values: an `array.array` of type 'q' or 'Q' if\n"
-        "all are of type `int` itself, and 'd' if all are of type `float` itself. It raises TypeError if\n"
-        "they are neither, and OverflowError if neither 'q' nor 'Q' has room for all ints. O(log n), and\n"
-        "O(1) a pair.\n\n"
-        ">>> [part.tolist() for part in SortedMap({1: 10, 2: 20, 3: 30}).items_arrays(2)]\n[[2, 3], [20, 30]]"),
-    NAMED("pop", map_pop, "pop($self, key, /, default=<unrepresentable>)\n--\n\n"
-        "Removes a key and returns its value. If the key is absent it returns the default, or raises\n"
-        "KeyError if none is given. O(log n).\n\n>>> SortedMap(a=1).pop('a')\n1"),
-    NAMED("setdefault", map_setdefault, "setdefault($self, key, /, default=None)\n--\n\n"
-        "The value at a key. If the key is absent, the default is stored there first. O(log n).\n\n"
-        ">>> SortedMap(a=1).setdefault('b', 2)\n2"),
-    NAMED("peekitem", map_peekitem, "peekitem($self, index=-1)\n--\n\n"
-        "The pair at an index in the order of the keys: the last one by default. It raises IndexError\n"
-        "if there is none. O(log n).\n\n>>> SortedMap(a=1, b=2).peekitem(0)\n('a', 1)"),
-    NAMED("popitem", map_popitem, "popitem($self, index=-1)\n--\n\n"
-        "Removes the pair at an index and returns it: the last one by default. It raises KeyError if\n"
-        "the map is empty, and IndexError if there is no such index. O(log n).\n\n"
-        ">>> SortedMap(a=1, b=2).popitem()\n('b', 2)"),
+    NAMED("get", map_get,
+          "get($self, key, /, default=None)\n--\n\nThe value at a key, or the default if the key is absent. O(log n).\n\n"
+          ">>> SortedMap(a=1).get('a'), SortedMap(a=1).get('b', 0)\n(1, 0)"),
+    NAMED("get_many", map_get_many,
+          "get_many($self, keys, /, default=None)\n--\n\n"
+          "A list of the value at each key of an array, or of the default if a key is absent. The keys\n"
+          "are 64-bit integers of an object with the buffer protocol, such as `array.array` or an array of\n"
+          "numpy. O(m log n) for m keys, and less than `get` for each, since 16 keys descend the tree side\n"
+          "by side.\n\n"
+          ">>> from array import array\n>>> SortedMap({1: 'a', 2: 'b'}).get_many(array('q', [2, 3]))\n['b', None]"),
+    NAMED("put_many", map_put_many,
+          "put_many($self, keys, values, /)\n--\n\n"
+          "Stores the value at each key of an array. The keys are those of `get_many`. The values are a\n"
+          "list or a tuple of any objects, or 64-bit integers or floats of an object with the buffer\n"
+          "protocol. Of equal keys the last value stays. If an array is none of these, TypeError or\n"
+          "ValueError is raised and the map is unchanged. If an allocation fails, MemoryError is raised\n"
+          "and the map is unchanged, unless no type of an array has room for all keys, those of the map\n"
+          "and the new ones: then the pairs before the one that failed may be stored. O(m log(n + m)) for\n"
+          "m keys.\n\n"
+          ">>> from array import array\n>>> names = SortedMap({1: 'a'})\n>>> names.put_many(array('q', [2, 1]), ['c', 'b'])\n>>> "
+          "names\nSortedMap({1: 'b', 2: 'c'})"),
+    NAMED("items_arrays", map_items_arrays,
+          "items_arrays($self, minimum=None, maximum=None)\n--\n\n"
+          "The keys as `keys_array` returns them, and their values: an `array.array` of type 'q' or 'Q' if\n"
+          "all are of type `int` itself, and 'd' if all are of type `float` itself. It raises TypeError if\n"
+          "they are neither, and OverflowError if neither 'q' nor 'Q' has room for all ints. O(log n), and\n"
+          "O(1) a pair.\n\n"
+          ">>> [part.tolist() for part in SortedMap({1: 10, 2: 20, 3: 30}).items_arrays(2)]\n[[2, 3], [20, 30]]"),
+    NAMED("pop", map_pop,
+          "pop($self, key, /, default=<unrepresentable>)\n--\n\n"
+          "Removes a key and returns its value. If the key is absent it returns the default, or raises\n"
+          "KeyError if none is given. O(log n).\n\n>>> SortedMap(a=1).pop('a')\n1"),
+    NAMED("setdefault", map_setdefault,
+          "setdefault($self, key, /, default=None)\n--\n\n"
+          "The value at a key. If the key is absent, the default is stored there first. O(log n).\n\n"
+          ">>> SortedMap(a=1).setdefault('b', 2)\n2"),
+    NAMED("peekitem", map_peekitem,
+          "peekitem($self, index=-1)\n--\n\n"
+          "The pair at an index in the order of the keys: the last one by default. It raises IndexError\n"
+          "if there is none. O(log n).\n\n>>> SortedMap(a=1, b=2).peekitem(0)\n('a', 1)"),
+    NAMED("popitem", map_popitem,
+          "popitem($self, index=-1)\n--\n\n"
+          "Removes the pair at an index and returns it: the last one by default. It raises KeyError if\n"
+          "the map is empty, and IndexError if there is no such index. O(log n).\n\n"
+          ">>> SortedMap(a=1, b=2).popitem()\n('b', 2)"),
     NAMED("irange_items", map_irange_items,
-        "irange_items($self, minimum=None, maximum=None, inclusive=(True, True), reverse=False)\n--\n\n"
-        "An iterator over the pairs between two keys, as `irange`. O(log n) to begin, and O(1) a pair.\n\n"
-        ">>> list(SortedMap(a=1, b=2, c=3).irange_items('b'))\n[('b', 2), ('c', 3)]"),
+          "irange_items($self, minimum=None, maximum=None, inclusive=(True, True), reverse=False)\n--\n\n"
+          "An iterator over the pairs between two keys, as `irange`. O(log n) to begin, and O(1) a pair.\n\n"
+          ">>> list(SortedMap(a=1, b=2, c=3).irange_items('b'))\n[('b', 2), ('c', 3)]"),
     {NULL, NULL, 0, NULL},
 };
 
 static PyMethodDef set_methods[] = {
-    PLAIN("add", set_add, METH_O, "add($self, key, /)\n--\n\nAdds a key. If an equal one is there, that one stays. O(log n).\n\n"
-        ">>> numbers = SortedSet([1, 3])\n>>> numbers.add(2)\n>>> numbers\nSortedSet([1, 2, 3])"),
-    PLAIN("discard", set_discard, METH_O, "discard($self, key, /)\n--\n\nRemoves a key if it is there. O(log n).\n\n"
-        ">>> numbers = SortedSet([1, 3])\n>>> numbers.discard(3)\n>>> numbers\nSortedSet([1])"),
-    PLAIN("remove", set_remove, METH_O, "remove($self, key, /)\n--\n\nRemoves a key. It raises KeyError if the key is absent. O(log n).\n\n"
-        ">>> numbers = SortedSet([1, 3])\n>>> numbers.remove(1)\n>>> numbers\nSortedSet([3])"),
-    NAMED("pop", set_pop, "pop($self, index=-1)\n--\n\n"
-        "Removes the key at an index and returns it: the greatest one by default. It raises IndexError\n"
-        "if there is none. O(log n).\n\n>>> SortedSet([1, 3]).pop(0)\n1"),
-    PLAIN("count", set_count, METH_O, "count($self, key, /)\n--\n\n1 if the key is there, and else 0. O(log n).\n\n>>> SortedSet([1, 3]).count(3)\n1"),
+    PLAIN("add", set_add, METH_O,
+          "add($self, key, /)\n--\n\nAdds a key. If an equal one is there, that one stays. O(log n).\n\n"
+          ">>> numbers = SortedSet([1, 3])\n>>> numbers.add(2)\n>>> numbers\nSortedSet([1, 2, 3])"),
+    PLAIN("discard", set_discard, METH_O,
+          "discard($self, key, /)\n--\n\nRemoves a key if it is there. O(log n).\n\n"
+          ">>> numbers = SortedSet([1, 3])\n>>> numbers.discard(3)\n>>> numbers\nSortedSet([1])"),
+    PLAIN("remove", set_remove, METH_O,
+          "remove($self, key, /)\n--\n\nRemoves a key. It raises KeyError if the key is absent. O(log n).\n\n"
+          ">>> numbers = SortedSet([1, 3])\n>>> numbers.remove(1)\n>>> numbers\nSortedSet([3])"),
+    NAMED("pop", set_pop,
+          "pop($self, index=-1)\n--\n\n"
+          "Removes the key at an index and returns it: the greatest one by default. It raises IndexError\n"
+          "if there is none. O(log n).\n\n>>> SortedSet([1, 3]).pop(0)\n1"),
+    PLAIN("count", set_count, METH_O,
+          "count($self, key, /)\n--\n\n1 if the key is there, and else 0. O(log n).\n\n>>> SortedSet([1, 3]).count(3)\n1"),
     {NULL, NULL, 0, NULL},
 };
 
-#define SLOT(name, call) {Py_##name, (void *)call}
+#define SLOT(name, call)                                                                                                                             \
+    { Py_##name, (void *)call }
 
 static PyType_Slot shared_slots[] = {
-    SLOT(tp_doc, "What SortedMap and SortedSet share."), SLOT(tp_dealloc, shared_dealloc), SLOT(tp_traverse, shared_traverse),
-    SLOT(tp_clear, shared_clear), SLOT(tp_methods, shared_methods), SLOT(tp_iter, shared_iter), SLOT(sq_contains, shared_contains),
-    SLOT(mp_length, shared_length), SLOT(tp_hash, PyObject_HashNotImplemented), {0, NULL},
+    SLOT(tp_doc, "What SortedMap and SortedSet share."),
+    SLOT(tp_dealloc, shared_dealloc),
+    SLOT(tp_traverse, shared_traverse),
+    SLOT(tp_clear, shared_clear),
+    SLOT(tp_methods, shared_methods),
+    SLOT(tp_iter, shared_iter),
+    SLOT(sq_contains, shared_contains),
+    SLOT(mp_length, shared_length),
+    SLOT(tp_hash, PyObject_HashNotImplemented),
+    {0, NULL},
 };
 static PyType_Slot map_slots[] = {
-    SLOT(tp_doc, "The compiled part of SortedMap."), SLOT(tp_new, map_new), SLOT(tp_traverse, shared_traverse), SLOT(tp_clear, shared_clear),
-    SLOT(tp_methods, map_methods), SLOT(mp_subscript, map_subscript), SLOT(mp_ass_subscript, map_assign), {0, NULL},
+    SLOT(tp_doc, "The compiled part of SortedMap."),
+    SLOT(tp_new, map_new),
+    SLOT(tp_traverse, shared_traverse),
+    SLOT(tp_clear, shared_clear),
+    SLOT(tp_methods, map_methods),
+    SLOT(mp_subscript, map_subscript),
+    SLOT(mp_ass_subscript, map_assign),
+    {0, NULL},
 };
 static PyType_Slot set_slots[] = {
-    SLOT(tp_doc, "The compiled part of SortedSet."), SLOT(tp_new, set_new), SLOT(tp_traverse, shared_traverse), SLOT(tp_clear, shared_clear),
-    SLOT(tp_methods, set_methods), SLOT(mp_subscript, set_subscript), {0, NULL},
+    SLOT(tp_doc, "The compiled part of SortedSet."),
+    SLOT(tp_new, set_new),
+    SLOT(tp_traverse, shared_traverse),
+    SLOT(tp_clear, shared_clear),
+    SLOT(tp_methods, set_methods),
+    SLOT(mp_subscript, set_subscript),
+    {0, NULL},
 };
-static PyType_Slot walk_slots[] = {
-    SLOT(tp_doc, "An iterator over keys, values or pairs."), SLOT(tp_dealloc, walk_dealloc), SLOT(tp_traverse, walk_traverse),
-    SLOT(tp_clear, walk_clear), SLOT(tp_iter, PyObject_SelfIter), SLOT(tp_iternext, walk_next), {0, NULL},
+enum {
+    OPEN = Py_TPFLAGS_DEFAULT | Py_TPFLAGS_HAVE_GC | Py_TPFLAGS_BASETYPE,
+    CLOSED = Py_TPFLAGS_DEFAULT | Py_TPFLAGS_HAVE_GC | Py_TPFLAGS_DISALLOW_INSTANTIATION
 };
-
-enum { OPEN = Py_TPFLAGS_DEFAULT | Py_TPFLAGS_HAVE_GC | Py_TPFLAGS_BASETYPE, CLOSED = Py_TPFLAGS_DEFAULT | Py_TPFLAGS_HAVE_GC | Py_TPFLAGS_DISALLOW_INSTANTIATION };
 
 static PyType_Spec shared_spec = {"sweep_bptree._native.Sorted", sizeof(Map), 0, CLOSED | Py_TPFLAGS_BASETYPE, shared_slots};
 /* (each is larger than what both are of, so that no class can be of both) */
 static PyType_Spec map_spec = {"sweep_bptree._native.Map", sizeof(Map) + sizeof(void *), 0, OPEN, map_slots};
 static PyType_Spec set_spec = {"sweep_bptree._native.Set", sizeof(Map) + sizeof(void *), 0, OPEN, set_slots};
-static PyType_Spec walk_spec = {"sweep_bptree._native.Walk", sizeof(Walk), 0, CLOSED, walk_slots};
 
 static int module_begin(PyObject *module) {
     /* (the types are this process's only ones, so a second interpreter may not have the module) */
-    if (walk_type) {
+    if (map_type) {
         PyErr_SetString(PyExc_ImportError, "sweep_bptree can be imported once in a process");
         return -1;
     }
@@ -1286,9 +1322,7 @@ static int module_begin(PyObject *module) {
     if (!result) set_type = (PyTypeObject *)PyType_FromSpecWithBases(&set_spec, shared);
     Py_XDECREF(shared);
     if (!map_type || !set_type || PyModule_AddObjectRef(module, "Map", (PyObject *)map_type)) return -1;
-    if (PyModule_AddObjectRef(module, "Set", (PyObject *)set_type)) return -1;
-    walk_type = (PyTypeObject *)PyType_FromSpec(&walk_spec);
-    return walk_type ? 0 : -1;
+    return PyModule_AddObjectRef(module, "Set", (PyObject *)set_type) ? -1 : walks_begin();
 }
 
 static PyModuleDef_Slot module_slots[] = {{Py_mod_exec, (void *)module_begin}, {0, NULL}};

@@ -61,7 +61,7 @@ def functions() -> dict[str, Any]:
         ("range_len", size, [handle, word, word]),
         ("put", code, [handle, word, word, number]),
         ("del", code, [handle, word, number]),
-        ("remove_at", code, [handle, size, pair]),
+        ("del_at", code, [handle, size, pair]),
         ("pop_first", code, [handle, pair]),
         ("pop_last", code, [handle, pair]),
         ("range", size, [handle, word, array, size]),

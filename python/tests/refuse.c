@@ -61,8 +61,8 @@ void __wrap_PyMem_Free(void *at) {
     __real_PyMem_Free(at);
 }
 
-#define OBJECT(name, parameters, arguments) \
-    PyObject *__real_##name parameters; \
+#define OBJECT(name, parameters, arguments)                                                                                                          \
+    PyObject *__real_##name parameters;                                                                                                              \
     PyObject *__wrap_##name parameters { return is_refused() ? PyErr_NoMemory() : __real_##name arguments; }
 
 OBJECT(PyTuple_New, (Py_ssize_t n), (n))

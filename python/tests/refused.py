@@ -31,6 +31,7 @@ KINDS = {
     "unsigned": range(2**63 + 5, 2**63 + 40),
     "str": [f"key {number:03d}" * (1 + number % 3) for number in range(70)],
     "long": [f"key {number:03d}" * 100 for number in range(40)],
+    "alike": [f"a beginning of all {number:03d}" for number in range(80)],
     "tuple": [(number, "a" * number, 2.0**70) for number in range(40)],
 }
 KEYS = [5000, -5000, 2**63 + 7, 2**80, "key 0405", "key 030" * 100, 1003.5, (7, "x"), None, 1050]
@@ -167,7 +168,9 @@ class Refused(unittest.TestCase):
             for given in ARRAYS:
                 changing, reading = calls_of_arrays(given)
                 # (of other keys a call may keep a part of the pairs)
-                is_whole = kind in ("none", "int", "unsigned") and not (min([*keys, *given], default=0) < 0 and max([*keys, *given]) >= 2**63)
+                is_whole = kind in ("none", "int", "unsigned") and not (
+                    min([*keys, *given], default=0) < 0 and max([*keys, *given]) >= 2**63
+                )
                 for at, call in enumerate(changing * is_whole + reading):
                     with self.subTest(kind=kind, given=given[:3], call=at):
                         refusals += self.refuse_each(list(keys), call)
@@ -196,7 +199,12 @@ class Refused(unittest.TestCase):
     def test_arrays_of_pairs(self):
         for kind, keys in KINDS.items():
             keys = [key for key in keys if isinstance(key, int)]
-            for values in ([1000 + at for at in range(80)], [at + 0.5 for at in range(80)], [2**63 + at for at in range(80)], [2**70] * 80):
+            for values in (
+                [1000 + at for at in range(80)],
+                [at + 0.5 for at in range(80)],
+                [2**63 + at for at in range(80)],
+                [2**70] * 80,
+            ):
                 for more in ([], [("a", 1)]):
                     map_ = SortedMap([*zip(keys, values), *more])
                     before = map_.items().tolist()
@@ -213,6 +221,40 @@ class Refused(unittest.TestCase):
                             break
                         self.assertEqual(map_.items().tolist(), before)
                     self.assertGreater(n, 4)
+
+    def test_first_bytes_that_become_more_or_fewer(self):
+        """The 64th key makes a map look for first bytes that all keys have; another key may not have them."""
+        for keys in (KINDS["alike"][:63], KINDS["alike"][:62], [*KINDS["alike"], *KINDS["str"]]):
+            for key in ("a beginning of all 999", "a beginning of one", "a", "", "b", b"x", 5000, 2**80, ("a",), None, "\ud800"):
+                for make in (self.by_load, self.by_put):
+                    plain = dict.fromkeys(keys, OTHER)
+                    for n in range(1000):
+                        map_ = make(keys)
+                        refuse_after(n)
+                        try:
+                            map_[key] = THING
+                            wanted = {**plain, key: THING}
+                        except MemoryError:
+                            wanted = plain
+                        was_refused = refuse_after(-1)
+                        self.assertEqual(map_, wanted)
+                        self.assertEqual(
+                            [at in map_ for at in (keys[5], "a beginning", "b", key)], [True, False, "b" in wanted, key in wanted]
+                        )
+                        if not was_refused:
+                            break
+                    self.assertEqual(wanted[key], THING)
+                    # (a put into a leaf with room allocates an entry alone)
+                    self.assertGreater(n, 0)
+
+    def by_load(self, keys):
+        return SortedMap.fromkeys(keys, OTHER)
+
+    def by_put(self, keys):
+        map_ = SortedMap()
+        for key in keys:
+            map_[key] = OTHER
+        return map_
 
     def references(self, keys):
         gc.collect(0)
@@ -246,7 +288,12 @@ class Refused(unittest.TestCase):
     def test_sets(self):
         for keys in KINDS.values():
             for key in KEYS:
-                for call in (lambda keys: keys.add(key), lambda keys: keys.discard(key), lambda keys: keys and keys.pop(0), lambda keys: keys.symmetric_difference_update([key, 5])):
+                for call in (
+                    lambda keys: keys.add(key),
+                    lambda keys: keys.discard(key),
+                    lambda keys: keys and keys.pop(0),
+                    lambda keys: keys.symmetric_difference_update([key, 5]),
+                ):
                     for n in range(1000):
                         numbers = SortedSet(keys)
                         refuse_after(n)

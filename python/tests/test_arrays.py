@@ -129,7 +129,9 @@ class Beside(unittest.TestCase):
             kind = dice.choice("qQ")
             keys = some_keys(dice, kind, model, dice.choice(sizes))
             given = dice.choice(list(MAKERS.values()))(kind, keys)
-            dice.choice([self.get_many, self.rank_many, self.put_many, self.put_many, self.del_many, self.arrays])(dice, map_, model, keys, given)
+            dice.choice([self.get_many, self.rank_many, self.put_many, self.put_many, self.del_many, self.arrays])(
+                dice, map_, model, keys, given
+            )
             if turn % 8 == 0:
                 key = dice.choice([*model, -5, 7])
                 map_[key] = model[key] = "one"

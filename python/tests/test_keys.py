@@ -13,14 +13,49 @@ from sweep_bptree import SortedMap, SortedSet
 NEAR = [2**power + more for power in (31, 52, 53, 62, 63, 64, 65, 100, 1023, 1024, 2046, 2047, 2048, 20000) for more in (-1, 0, 1)]
 FLOATS = [0.0, 0.5, 1.5, 5e-324, 2.2e-308, 1e-300, 0.1, 1e15 + 0.5, 2.0**53, 2.0**63, 2.0**64, 1e300, 1.7976931348623157e308]
 NUMBERS = [*range(-300, 300, 7), *NEAR, *(-it for it in NEAR), *FLOATS, *(-it for it in FLOATS), math.inf, -math.inf]
-STRINGS = ["", "\0", "\0\0", "a", "a\0", "a\0b", "a\x01", "ab", "b", "é", "\u20ac", "\ud7ff", "\ud800", "\ue000", "\U0001f600", "\xff", "x" * 1000]
+STRINGS = [
+    "",
+    "\0",
+    "\0\0",
+    "a",
+    "a\0",
+    "a\0b",
+    "a\x01",
+    "ab",
+    "b",
+    "é",
+    "\u20ac",
+    "\ud7ff",
+    "\ud800",
+    "\ue000",
+    "\U0001f600",
+    "\xff",
+    "x" * 1000,
+]
 BYTES = [b"", b"\0", b"\0\0", b"\0\xff", b"\xff", b"a", b"a\0", b"a\xff", b"\xff\xff", bytes(1000)]
 UTC = datetime.timezone.utc
 EAST = datetime.timezone(datetime.timedelta(hours=5, minutes=30))
 DATES = [datetime.date.min, datetime.date(1969, 12, 31), datetime.date(1970, 1, 1), datetime.date(2024, 2, 29), datetime.date.max]
 NAIVE = [datetime.datetime.min, datetime.datetime(1969, 12, 31, 23, 59, 59, 999999), datetime.datetime(1970, 1, 1), datetime.datetime.max]
 AWARE = [it.replace(tzinfo=zone) for it in NAIVE for zone in (UTC, EAST)]
-TUPLES = [(), (None,), (1,), (1, 2), (1.5,), ("a",), ("a", "b"), ("a\0",), ("a\0", 1), (b"", "x"), ((),), ((1,), 2), ((1, 2),), (True, "z"), (2**70,), ("", "")]
+TUPLES = [
+    (),
+    (None,),
+    (1,),
+    (1, 2),
+    (1.5,),
+    ("a",),
+    ("a", "b"),
+    ("a\0",),
+    ("a\0", 1),
+    (b"", "x"),
+    ((),),
+    ((1,), 2),
+    ((1, 2),),
+    (True, "z"),
+    (2**70,),
+    ("", ""),
+]
 KINDS = [[None], NUMBERS, STRINGS, BYTES, DATES, NAIVE, AWARE, TUPLES]
 
 
@@ -88,8 +123,23 @@ class Order(unittest.TestCase):
             self.assertEqual((keys.rank(None), None in keys), (0, False))
 
     def test_ints_of_both_ranges(self):
-        for given in ([2**64 - 1, 5], [5, 2**64 - 1], [-1, 5], [5, -1], [2**64 - 1, -1], [-1, 5, 2**63], [2**63, 5, -1], [5, 2**64], [5, -(2**63) - 1]):
-            for made in (SortedSet(given), self.one_by_one(SortedSet(), given), self.one_by_one(SortedSet([7]), given), self.one_by_one(SortedSet(["x"]), given)):
+        for given in (
+            [2**64 - 1, 5],
+            [5, 2**64 - 1],
+            [-1, 5],
+            [5, -1],
+            [2**64 - 1, -1],
+            [-1, 5, 2**63],
+            [2**63, 5, -1],
+            [5, 2**64],
+            [5, -(2**63) - 1],
+        ):
+            for made in (
+                SortedSet(given),
+                self.one_by_one(SortedSet(), given),
+                self.one_by_one(SortedSet([7]), given),
+                self.one_by_one(SortedSet(["x"]), given),
+            ):
                 keys = [key for key in made if key != "x" and (key != 7 or 7 in given)]
                 self.assertEqual(keys, sorted(given))
 
@@ -147,7 +197,17 @@ class AtRandom(unittest.TestCase):
 
 class Equality(unittest.TestCase):
     def test_the_key_that_was_first_stays(self):
-        for first, second in [(1, 1.0), (1, True), (1.0, 1), (True, 1), (0.0, -0.0), (False, 0.0), ((1, 2), (1.0, 2)), (2**70, 2.0**70), (AWARE[4], AWARE[4].astimezone(EAST))]:
+        for first, second in [
+            (1, 1.0),
+            (1, True),
+            (1.0, 1),
+            (True, 1),
+            (0.0, -0.0),
+            (False, 0.0),
+            ((1, 2), (1.0, 2)),
+            (2**70, 2.0**70),
+            (AWARE[4], AWARE[4].astimezone(EAST)),
+        ]:
             for others in ({}, {None: 0}):
                 map_ = SortedMap(others)
                 map_[first] = "first"
@@ -160,7 +220,16 @@ class Equality(unittest.TestCase):
                 self.assertEqual((repr(both.peekitem()), len(both)), (repr((first, 2)), 1 + len(others)))
 
     def test_kinds_that_are_never_equal(self):
-        keys = ["a", b"a", ("a",), datetime.date(2024, 1, 1), datetime.datetime(2024, 1, 1), datetime.datetime(2024, 1, 1, tzinfo=UTC), None, 0]
+        keys = [
+            "a",
+            b"a",
+            ("a",),
+            datetime.date(2024, 1, 1),
+            datetime.datetime(2024, 1, 1),
+            datetime.datetime(2024, 1, 1, tzinfo=UTC),
+            None,
+            0,
+        ]
         self.assertEqual(len(SortedSet(keys)), len(keys))
 
     def test_subclasses_count_as_what_they_are_of(self):
@@ -233,7 +302,20 @@ class NoKeys(unittest.TestCase):
             self.assertEqual((list(map_.items()), list(keys)), (before, list(map_)))
 
     def test_objects(self):
-        for key in ([1], {}, object(), 1j, bytearray(b"a"), datetime.timedelta(1), datetime.time(1), Fraction(1, 2), (1, [2]), ((1, {}),), int, NAIVE[:1]):
+        for key in (
+            [1],
+            {},
+            object(),
+            1j,
+            bytearray(b"a"),
+            datetime.timedelta(1),
+            datetime.time(1),
+            Fraction(1, 2),
+            (1, [2]),
+            ((1, {}),),
+            int,
+            NAIVE[:1],
+        ):
             self.check(TypeError, key)
 
     def test_nan(self):

@@ -26,6 +26,7 @@ KINDS = {
     "text": lambda number: Text(f"key {number:06d}"),
     "tuple": lambda number: (number // 10, str(number)),
     "mixed": lambda number: number + 1000 if number % 3 else f"key {number}",
+    "alike": lambda number: f"a beginning of most {number:06d}" if number % 90 else f"a{number}",
 }
 
 

@@ -255,8 +255,7 @@ class Habits(unittest.TestCase):
                         left = [
                             key
                             for key in sorted(plain, reverse=reverse)
-                            if (last is None or (key < last if reverse else key > last))
-                            and not (bounded and not low <= key <= high)
+                            if (last is None or (key < last if reverse else key > last)) and not (bounded and not low <= key <= high)
                         ]
                         found = next(it, None)
                         self.assertEqual(found, (left[0], plain[left[0]]) if left else None)

@@ -372,8 +372,7 @@ class Threads(unittest.TestCase):
             name
             for of in (_native.Sorted, _native.Map, SortedMap)
             for name, it in vars(of).items()
-            if (callable(it) or isinstance(it, classmethod))
-            and (not name.startswith("_") or name.startswith("__"))
+            if (callable(it) or isinstance(it, classmethod)) and (not name.startswith("_") or name.startswith("__"))
         }
         self.assertEqual(methods - {"__class_getitem__"}, set(itertools.chain(*TABLE.values())))
 

@@ -74,8 +74,8 @@ unsafe fn entry_at<K, V>(address: u64) -> Entry<K, V> {
 
 /// An ordered map: keys of any type that implements [`OrderedKey`], and values of any type.
 ///
-/// The calls have the names of `BTreeMap`'s. Beside them [`get_at`](Map::get_at), [`rank`](Map::rank)
-/// and [`remove_at`](Map::remove_at) go from indexes to pairs and back in O(log n). A look-up
+/// The calls have the names of `BTreeMap`'s. Beside them [`get_index`](Map::get_index), [`rank`](Map::rank)
+/// and [`remove_index`](Map::remove_index) go from indexes to pairs and back in O(log n). A look-up
 /// compares the bytes of its key in place. It takes O(log n) steps, allocates nothing and never
 /// fails, but for keys that are tuples of more than 64 bytes.
 ///
@@ -146,7 +146,7 @@ impl<K, V> Map<K, V> {
     }
 
     /// The pair at an index in the order of the keys, from 0 on. O(log n).
-    pub fn get_at(&self, index: usize) -> Option<(&K, &V)> {
+    pub fn get_index(&self, index: usize) -> Option<(&K, &V)> {
         // SAFETY: the map owns the entry, and `&self` keeps it from changes.
         let (key, value) = unsafe { &*self.entry_of_index(index)?.as_ptr() };
         Some((key, value))
@@ -161,33 +161,33 @@ impl<K, V> Map<K, V> {
 
     /// The pair with the least key. O(log n).
     pub fn first_key_value(&self) -> Option<(&K, &V)> {
-        self.get_at(0)
+        self.get_index(0)
     }
 
     /// The pair with the greatest key. O(log n).
     pub fn last_key_value(&self) -> Option<(&K, &V)> {
-        self.get_at(self.len().checked_sub(1)?)
+        self.get_index(self.len().checked_sub(1)?)
     }
 
     /// Removes and returns the pair at an index. O(log n). If an allocation fails, the map is
     /// unchanged.
-    pub fn remove_at(&mut self, index: usize) -> Result<Option<(K, V)>, OutOfMemory> {
+    pub fn remove_index(&mut self, index: usize) -> Result<Option<(K, V)>, OutOfMemory> {
         let mut old = 0;
         // SAFETY: the handle holds a map.
-        let done = unsafe { raw::bptree_dict_remove_at(&mut self.handle, index, &mut old) };
+        let done = unsafe { raw::bptree_dict_del_at(&mut self.handle, index, &mut old) };
         self.take_out(done, old)
     }
 
     /// Removes and returns the pair with the least key. O(log n). If an allocation fails, the map is
     /// unchanged.
     pub fn pop_first(&mut self) -> Result<Option<(K, V)>, OutOfMemory> {
-        self.remove_at(0)
+        self.remove_index(0)
     }
 
     /// Removes and returns the pair with the greatest key. O(log n). If an allocation fails, the map
     /// is unchanged.
     pub fn pop_last(&mut self) -> Result<Option<(K, V)>, OutOfMemory> {
-        self.remove_at(self.len().wrapping_sub(1))
+        self.remove_index(self.len().wrapping_sub(1))
     }
 
     // The pair whose entry a call has removed.

@@ -18,7 +18,7 @@ use std::ops::{Bound, RangeBounds};
 /// for (score, player) in [(30, 3), (10, 1), (20, 2)] {
 ///     scores.insert(score, player)?;
 /// }
-/// assert_eq!(scores.get_at(0), Some((10, 1)));
+/// assert_eq!(scores.get_index(0), Some((10, 1)));
 /// assert_eq!(scores.rank(25), Err(2));
 /// assert_eq!(scores.range(15..).collect::<Vec<_>>(), [(20, 2), (30, 3)]);
 /// # Ok::<(), sweep_bptree_proved::OutOfMemory>(())
@@ -179,7 +179,7 @@ impl NumberMap {
     }
 
     /// The pair at an index in the order of the keys, from 0 on.
-    pub fn get_at(&self, index: usize) -> Option<(u64, u64)> {
+    pub fn get_index(&self, index: usize) -> Option<(u64, u64)> {
         // SAFETY: `pair_of` gives a handle that holds a map, and a pair of its own.
         self.pair_of(|map, pair| unsafe { raw::bptree_at(map, index, pair) })
     }
@@ -201,9 +201,9 @@ impl NumberMap {
     }
 
     /// Removes and returns the pair at an index.
-    pub fn remove_at(&mut self, index: usize) -> Result<Option<(u64, u64)>, OutOfMemory> {
+    pub fn remove_index(&mut self, index: usize) -> Result<Option<(u64, u64)>, OutOfMemory> {
         // SAFETY: `removed` gives a handle that holds a map, and a pair of its own.
-        self.removed(|map, pair| unsafe { raw::bptree_remove_at(map, index, pair) })
+        self.removed(|map, pair| unsafe { raw::bptree_del_at(map, index, pair) })
     }
 
     /// Removes and returns the pair with the least key.

@@ -37,7 +37,7 @@ extern "C" {
     pub fn bptree_range_len(map: &Handle, from: u64, to: u64) -> usize;
     pub fn bptree_put(map: &mut Handle, key: u64, value: u64, old: &mut u64) -> u32;
     pub fn bptree_del(map: &mut Handle, key: u64, old: &mut u64) -> u32;
-    pub fn bptree_remove_at(map: &mut Handle, index: usize, pair: &mut Pair) -> u32;
+    pub fn bptree_del_at(map: &mut Handle, index: usize, pair: &mut Pair) -> u32;
     pub fn bptree_pop_first(map: &mut Handle, pair: &mut Pair) -> u32;
     pub fn bptree_pop_last(map: &mut Handle, pair: &mut Pair) -> u32;
     pub fn bptree_range(map: &Handle, from: u64, out: *mut Pair, n: usize) -> usize;
@@ -57,6 +57,6 @@ extern "C" {
         old: &mut u64,
     ) -> u32;
     pub fn bptree_dict_del(dict: &mut Handle, key: *const u8, n: usize, old: &mut u64) -> u32;
-    pub fn bptree_dict_remove_at(dict: &mut Handle, index: usize, old: &mut u64) -> u32;
+    pub fn bptree_dict_del_at(dict: &mut Handle, index: usize, old: &mut u64) -> u32;
     pub fn bptree_dict_values(dict: &Handle, index: usize, out: *mut u64, n: usize) -> usize;
 }

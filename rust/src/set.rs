@@ -38,13 +38,13 @@ impl<K> Set<K> {
     }
 
     /// The key at an index, from 0 on. O(log n).
-    pub fn get_at(&self, index: usize) -> Option<&K> {
-        self.map.get_at(index).map(|(key, ())| key)
+    pub fn get_index(&self, index: usize) -> Option<&K> {
+        self.map.get_index(index).map(|(key, ())| key)
     }
 
     /// The least key. O(log n).
     pub fn first(&self) -> Option<&K> {
-        self.get_at(0)
+        self.get_index(0)
     }
 
     /// The greatest key. O(log n).
@@ -54,8 +54,8 @@ impl<K> Set<K> {
 
     /// Removes and returns the key at an index. O(log n). If an allocation fails, the set is
     /// unchanged.
-    pub fn remove_at(&mut self, index: usize) -> Result<Option<K>, OutOfMemory> {
-        Ok(self.map.remove_at(index)?.map(|(key, ())| key))
+    pub fn remove_index(&mut self, index: usize) -> Result<Option<K>, OutOfMemory> {
+        Ok(self.map.remove_index(index)?.map(|(key, ())| key))
     }
 
     /// Removes and returns the least key. O(log n). If an allocation fails, the set is unchanged.

@@ -79,7 +79,7 @@ where
                 let smaller = plain.range(..&it).count();
                 let rank = if plain.contains_key(&it) { Ok(smaller) } else { Err(smaller) };
                 assert_eq!(map.rank(&it), rank);
-                assert_eq!(map.get_at(smaller), plain.range(&it..).next());
+                assert_eq!(map.get_index(smaller), plain.range(&it..).next());
             }
             8 => {
                 let (from, to) = ordered(dice.bound(key), dice.bound(key));
@@ -104,7 +104,7 @@ where
                 let index = dice.roll(plain.len() as u64 + 1) as usize;
                 let gone =
                     plain.keys().nth(index).cloned().and_then(|key| plain.remove_entry(&key));
-                assert_eq!(map.remove_at(index), Ok(gone));
+                assert_eq!(map.remove_index(index), Ok(gone));
             }
             _ => {
                 let (first, last) =
@@ -280,9 +280,9 @@ fn threads_share_what_they_read() {
                     let index = i as usize;
                     assert_eq!(texts.get(format!("{i:06}").as_str()), Some(&i));
                     assert_eq!(texts.rank(format!("{i:06}x").as_str()), Err(index + 1));
-                    assert_eq!(keys.get_at(index), Some(&(i / 2, (i % 2) as u32)));
+                    assert_eq!(keys.get_index(index), Some(&(i / 2, (i % 2) as u32)));
                     assert_eq!((numbers.get(3 * i), numbers.get(3 * i + 1)), (Some(i), None));
-                    assert_eq!(numbers.get_at(index), Some((3 * i, i)));
+                    assert_eq!(numbers.get_index(index), Some((3 * i, i)));
                 }
                 assert_eq!(texts.values().copied().sum::<u64>(), PAIRS * (PAIRS - 1) / 2);
                 assert_eq!(

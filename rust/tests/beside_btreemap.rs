@@ -72,10 +72,10 @@ fn answers_alike() -> Result<(), OutOfMemory> {
                 let place = dice.roll(plain.len() as u64 + 2) as usize;
                 let at = match turn % 16 {
                     0 => plain.iter().nth(place).map(|(k, v)| (*k, *v)),
-                    _ => map.get_at(place),
+                    _ => map.get_index(place),
                 };
-                assert_eq!(map.get_at(place), at);
-                assert_eq!(map.remove_at(place)?, at);
+                assert_eq!(map.get_index(place), at);
+                assert_eq!(map.remove_index(place)?, at);
                 if let Some((key, value)) = at {
                     assert_eq!(plain.remove(&key), Some(value));
                 }

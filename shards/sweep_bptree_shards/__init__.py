@@ -5,13 +5,13 @@
         values, found = shards.get_many(numpy.arange(10))
         shards.answer([b"rank 9", b"all"])     # [b'in 1', b'7 70,9 90']
 
-docs/guide/cluster.md describes what it costs, and what happens when a worker dies.
+docs/guide/cluster.md has the first steps, and docs/SCALING.md the costs and what happens when a worker dies.
 """
 
 from .client import Shards
 from .errors import BatchError, BrokenError, LostError, NotWrittenError, OutOfMemoryError, ShardError
 from .local import local_client
 
-__version__ = "0.6.0"
+__version__ = "0.7.0"
 
 __all__ = ["BatchError", "BrokenError", "LostError", "NotWrittenError", "OutOfMemoryError", "ShardError", "Shards", "local_client"]

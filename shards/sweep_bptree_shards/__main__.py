@@ -1,4 +1,4 @@
-"""Answers the lines of standard input as the program ``bptree`` does.
+"""Reads commands from standard input, and prints the same replies as the program ``bptree``.
 
     python3 -m sweep_bptree_shards [--shards N] [--workers N] [--folder DIR] < FILE
     python3 -m sweep_bptree_shards [--shards N] --folder DIR --scheduler ADDRESS [--tls-ca-file F --tls-cert F --tls-key F] < FILE
@@ -28,7 +28,7 @@ _BLOCK = 1 << 20
 
 
 def serve(shards: Shards, source: int, target: int) -> None:
-    """Answers the lines of a file, each before the next is waited for."""
+    """Prints a reply to each line of a file. It replies to the lines it has before it waits for more."""
     rest = b""
     while True:
         data = os.read(source, _BLOCK)
@@ -39,10 +39,10 @@ def serve(shards: Shards, source: int, target: int) -> None:
         # (what is longer than any good line is bad, however long it is)
         rest = rest[: LONGEST + 1]
         try:
-            answers, failed = shards.answer(lines), None
+            replies, failed = shards.answer(lines), None
         except BatchError as error:
-            answers, failed = error.answers, error
-        text = memoryview(b"".join(answer + b"\n" for answer in answers))
+            replies, failed = error.replies, error
+        text = memoryview(b"".join(reply + b"\n" for reply in replies))
         while text:
             text = text[os.write(target, text) :]
         if failed:
@@ -69,14 +69,15 @@ def client_of(given: argparse.Namespace) -> Iterator[Client]:
 
 
 def main() -> int:
-    parser = argparse.ArgumentParser(prog="sweep_bptree_shards", description="Answers the lines of standard input.")
-    parser.add_argument("--shards", type=int, default=3, help="how many shards it aims at (3)")
-    parser.add_argument(
-        "--limit", type=int, default=1_000_000, help="how many pairs a shard has at most before it is split (1000000)"
+    parser = argparse.ArgumentParser(
+        prog="sweep_bptree_shards", description="Reads commands from standard input and prints a reply to each."
     )
+    parser.add_argument("--shards", type=int, default=3, help="how many shards it aims at (3)")
+    parser.add_argument("--limit", type=int, default=1_000_000, help="how many pairs a shard has at most before it is split (1000000)")
     parser.add_argument("--workers", type=int, default=3, help="how many processes on this machine have them (3)")
     parser.add_argument(
-        "--folder", help="where the pairs stay, on a disk that all workers see; without it they are gone at the end"
+        "--folder",
+        help="the folder that stores the pairs, on a disk that all workers can access; by default the pairs are discarded at the end",
     )
     parser.add_argument("--scheduler", help="the address of a scheduler of Dask, such as tls://HOST:8786, in place of workers here")
     parser.add_argument("--tls-ca-file", help="the certificate of the authority that signed those of the cluster")

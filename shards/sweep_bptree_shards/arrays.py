@@ -6,7 +6,7 @@ from array import array
 
 import numpy
 
-from .cluster import Place, every
+from .cluster import Location, every
 from .errors import LostError
 
 __all__ = ["Arrays", "column"]
@@ -52,34 +52,34 @@ class Arrays:
 
         ``before`` is what is added to the first of them in each shard.
         """
-        places = self._cluster.places
-        by_worker = self._shards._by_worker(range(len(places)))
+        locations = self._cluster.locations
+        by_worker = self._shards._by_worker(range(len(locations)))
         order = None
         counts = numpy.array([len(shard_of)])
-        if len(places) > 1:
-            slot_of = numpy.empty(len(places), numpy.uint16 if len(places) < 1 << 16 else numpy.uint32)
-            slot_of[by_worker] = numpy.arange(len(places))
+        if len(locations) > 1:
+            slot_of = numpy.empty(len(locations), numpy.uint16 if len(locations) < 1 << 16 else numpy.uint32)
+            slot_of[by_worker] = numpy.arange(len(locations))
             slots = slot_of[shard_of]
-            counts = numpy.bincount(slots, minlength=len(places))
+            counts = numpy.bincount(slots, minlength=len(locations))
             # The keys of one shard stay in their order.
-            if len(places) <= _FEW:
-                order = numpy.concatenate([numpy.flatnonzero(slots == slot) for slot in range(len(places))])
+            if len(locations) <= _FEW:
+                order = numpy.concatenate([numpy.flatnonzero(slots == slot) for slot in range(len(locations))])
             else:
                 order = numpy.argsort(slots, kind="stable")
             columns = [it[order] for it in columns]
-        asked = [(places[shard], count) for shard, count in zip(by_worker, counts.tolist()) if count]
+        asked = [(locations[shard], count) for shard, count in zip(by_worker, counts.tolist()) if count]
         pieces = self._shards._run(self._cluster.batch, kind, asked, [_raw(it) for it in columns])[1] if asked else []
-        answers = []
+        results = []
         for at, kind_of in enumerate(types):
             came = numpy.frombuffer(bytearray().join(piece[at] for piece in pieces), kind_of)
             if before is not None and not at:
                 came += numpy.repeat(before[by_worker], counts)
             if order is None:
-                answers.append(came)
+                results.append(came)
             else:
-                answers.append(numpy.empty(len(came), came.dtype))
-                answers[-1][order] = came
-        return answers
+                results.append(numpy.empty(len(came), came.dtype))
+                results[-1][order] = came
+        return results
 
     def get_many(self, keys):
         keys = column(keys)
@@ -92,7 +92,7 @@ class Arrays:
         self._batch("put", self._route(keys), [keys, values], ())
         self._shards._balance()
 
-    def delete_many(self, keys):
+    def del_many(self, keys):
         keys = column(keys)
         (found,) = self._batch("del", self._route(keys), [keys], (bool,))
         self._shards._balance()
@@ -116,7 +116,7 @@ class Arrays:
 
     def range_arrays(self, low: int, high: int | None):
         shards = self._shards._shards_between(low, high)
-        parts = [(self._cluster.places[shard], 0) for shard in shards]
+        parts = [(self._cluster.locations[shard], 0) for shard in shards]
         pieces = self._shards._run(self._cluster.batch, "range", parts, [], low=low, high=high)[1] if parts else []
         return tuple(numpy.frombuffer(bytearray().join(piece[at] for piece in pieces), _WORD) for at in (0, 1))
 
@@ -142,13 +142,13 @@ class Arrays:
     async def _load(self, lows: list[int], ends: list[int], keys, values) -> None:
         """Makes shards of pairs, and replaces those of the table by them."""
         cluster = self._cluster
-        places = [cluster.fresh(low, high) for low, high in zip(lows, [*lows[1:], None])]
+        locations = [cluster.fresh(low, high) for low, high in zip(lows, [*lows[1:], None])]
 
-        async def fill(place: Place, start: int, end: int) -> None:
+        async def fill(location: Location, start: int, end: int) -> None:
             pairs = {name: cluster.raw(_raw(it[start:end])) for name, it in (("keys", keys), ("values", values)) if start < end}
             for turn in (1, 2, 3):
                 try:
-                    place.length = (await cluster.call(place, "take", high=place.high, **pairs))["length"]
+                    location.length = (await cluster.call(location, "take", high=location.high, **pairs))["length"]
                     return
                 except LostError:
                     # (its worker is gone: another one opens what there is of it)
@@ -156,9 +156,9 @@ class Arrays:
                         raise
 
         try:
-            await cluster.open(places, beside=[])
-            await every(fill(*it) for it in zip(places, ends, ends[1:]))
-            await cluster.replace(places)
+            await cluster.open(locations, beside=[])
+            await every(fill(*it) for it in zip(locations, ends, ends[1:]))
+            await cluster.replace(locations)
         except BaseException:
-            await cluster.drop(places)
+            await cluster.drop(locations)
             raise

@@ -13,9 +13,10 @@ from itertools import accumulate
 from distributed import Client
 
 from . import routing
-from .cluster import Cluster, Place
-from .errors import BatchError, BrokenError, NotWrittenError, ShardError
+from .cluster import Cluster, Location
+from .errors import BatchError, NotWrittenError, ShardError
 from .lines import GREATEST, request
+from .plan import Plan, combined, lines_with_exact_lengths
 from .shard import TEXT
 
 __all__ = ["Shards"]
@@ -76,19 +77,19 @@ class Shards:
             return await function(*arguments, **named)
 
     def _see_bounds(self) -> None:
-        self._bounds = [place.low for place in self._cluster.places[1:]]
+        self._bounds = [location.low for location in self._cluster.locations[1:]]
 
     def _by_worker(self, shards) -> list[int]:
         """Shards in the order of their workers: the message to a worker is one piece then."""
-        places = self._cluster.places
-        return sorted(shards, key=lambda shard: (places[shard].worker, shard))
+        locations = self._cluster.locations
+        return sorted(shards, key=lambda shard: (locations[shard].worker, shard))
 
     def lengths(self) -> list[int]:
         """How many pairs each shard has, in their order."""
-        places = self._cluster.places
-        if any(place.handle is None for place in places):
-            self._run(self._cluster.open, places)
-        return [place.length for place in places]
+        locations = self._cluster.locations
+        if any(location.handle is None for location in locations):
+            self._run(self._cluster.open, locations)
+        return [location.length for location in locations]
 
     def bounds(self) -> list[int]:
         """The bounds between the shards."""
@@ -101,193 +102,51 @@ class Shards:
     # Lines.
 
     def _ask(self, asked: dict[int, list[bytes]]) -> dict[int, list[bytes]]:
-        """Sends lines to shards, one message to each of their workers at once, and returns the answers of each shard."""
+        """Sends lines to shards, in one message to each worker, all at once. Returns the replies of each shard."""
         if not asked:
             return {}
         order = self._by_worker(asked)
         texts = [b"\n".join(asked[shard]) + b"\n" for shard in order]
-        parts = [(self._cluster.places[shard], len(text)) for shard, text in zip(order, texts)]
+        parts = [(self._cluster.locations[shard], len(text)) for shard, text in zip(order, texts)]
         sizes, pieces = self._run(self._cluster.batch, TEXT, parts, [memoryview(b"".join(texts))])
         said, ends = b"".join(column for (column,) in pieces), list(accumulate(sizes))
         return {shard: said[end - size : end].split(b"\n") for shard, size, end in zip(order, sizes, ends)}
 
     def answer(self, lines: Sequence[bytes]) -> list[bytes]:
-        """The answers to lines of the program, in their order, as the program gives them."""
-        answers: list[bytes] = []
+        """Carries out lines of commands, and returns the replies of the program to them, in the order of the lines."""
+        replies: list[bytes] = []
         for start in range(0, len(lines), self.batch):
             try:
-                answers += self._answer_batch(lines[start : start + self.batch])
+                replies += self._batch(lines[start : start + self.batch])
             except ShardError as error:
-                raise BatchError(error, answers) from error
+                raise BatchError(error, replies) from error
             self._balance()
-        return answers
+        return replies
 
     def _present(self, requests: list) -> set[int]:
         """Which of the keys that these requests put or delete are there."""
         of_shards: dict[int, list[int]] = {}
         for key in dict.fromkeys(it[1] for it in requests if it and it[0] in _CHANGES):
             of_shards.setdefault(routing.route(self._bounds, key), []).append(key)
-        answers = self._ask({shard: [b"rank %d" % key for key in found] for shard, found in of_shards.items()})
-        return {key for shard, found in of_shards.items() for key, it in zip(found, answers[shard]) if it.startswith(b"in")}
+        replies = self._ask({shard: [b"rank %d" % key for key in found] for shard, found in of_shards.items()})
+        return {key for shard, found in of_shards.items() for key, it in zip(found, replies[shard]) if it.startswith(b"in")}
 
-    def _answer_batch(self, lines: Sequence[bytes]) -> list[bytes]:
+    def _batch(self, lines: Sequence[bytes]) -> list[bytes]:
+        """Carries out the lines of one batch. Either all shards carry out their part of it, or no shard does."""
         requests = [request(line) for line in lines]
         # The shard that has an index of the whole depends on the lengths, and these change with the lines before it. So it is asked
         # first which of the keys that are changed before it are there.
-        exact = max((at + 1 for at, it in enumerate(requests) if it and it[0] in _BY_PLACE), default=0)
-        plan, asked = self._planned(lines, requests, self._present(requests[:exact]), exact)
+        exact = lines_with_exact_lengths(requests)
+        present = self._present(requests[:exact])
+        plan = Plan(self._bounds, self.lengths(), present)
+        plan.add(lines[:exact], requests[:exact])
+        plan.end_exact_lengths()
+        plan.add(lines[exact:], requests[exact:])
         before = self.lengths()
-        came = self._ask({shard: found for shard, found in enumerate(asked) if found})
-        return self._combined(plan, before, came)
+        came = self._ask({shard: found for shard, found in enumerate(plan.asked) if found})
+        return combined(plan.steps, before, came)
 
-    def _planned(self, lines: Sequence[bytes], requests: list, present: set[int], exact: int) -> tuple[list, list[list[bytes]]]:
-        """What is asked of each shard, and of each line how its answer is made.
-
-        A shard has at least ``least`` and at most ``most`` pairs when a line is done. The two are equal for so many lines as
-        ``exact`` says, where the keys that are ``present`` are known. A plan is the number of the shard that answers a line which changes it; of one that does not, its complement; an answer
-        that is known; or how the answers of some shards become one.
-        """
-        bounds = self._bounds
-        least = self.lengths()
-        most = least
-        asked: list[list[bytes]] = [[] for _ in least]
-        everywhere = range(len(least))
-        plan: list = []
-        add = plan.append
-        route = routing.bisect_right
-        till_full = routing.till_full
-
-        for is_exact, part in ((True, slice(exact)), (False, slice(exact, None))):
-            if not is_exact:
-                most = least[:]
-            for line, it in zip(lines[part], requests[part]):
-                if it is None:
-                    add(b"bad")
-                    continue
-                name, first, second = it
-                if name == b"get":
-                    shard = route(bounds, first)
-                    asked[shard].append(line)
-                    add(~shard)
-                elif name == b"put":
-                    shard = route(bounds, first)
-                    asked[shard].append(line)
-                    add(shard)
-                    if not is_exact:
-                        most[shard] += 1
-                        if not least[shard]:
-                            least[shard] = 1
-                    elif first not in present:
-                        present.add(first)
-                        least[shard] += 1
-                elif name == b"del":
-                    shard = route(bounds, first)
-                    asked[shard].append(line)
-                    add(shard)
-                    if not is_exact:
-                        if least[shard]:
-                            least[shard] -= 1
-                    elif first in present:
-                        present.remove(first)
-                        least[shard] -= 1
-                elif name == b"rank":
-                    shard = route(bounds, first)
-                    asked[shard].append(line)
-                    add((_RANK, shard))
-                elif name == b"len":
-                    add((_LEN, ()))
-                elif name == b"at":
-                    found = routing.locate(least, first)
-                    if found is None:
-                        add(b"none")
-                    else:
-                        asked[found[0]].append(b"at %d" % found[1])
-                        add(~found[0])
-                elif name == b"page":
-                    found = routing.parts(least, first * second, second)
-                    for part in found:
-                        asked[part.shard].append(b"from %d %d" % (part.start, part.count))
-                    add((_JOIN, [part.shard for part in found]))
-                elif name == b"next":
-                    shard = route(bounds, first)
-                    found = till_full(range(shard + 1, len(least)), least, most)
-                    if most[shard]:
-                        asked[shard].append(line)
-                    for other in found:
-                        asked[other].append(b"first")
-                    add((_FIRST, [shard, *found] if most[shard] else found))
-                elif name == b"prev":
-                    shard = routing.route_below(bounds, first)
-                    found = till_full(range(shard - 1, -1, -1), least, most)
-                    if most[shard]:
-                        asked[shard].append(line)
-                    for other in found:
-                        asked[other].append(b"last")
-                    add((_FIRST, [shard, *found] if most[shard] else found))
-                elif name == b"first" or name == b"last":
-                    found = till_full(everywhere if name == b"first" else reversed(everywhere), least, most)
-                    for shard in found:
-                        asked[shard].append(line)
-                    add((_FIRST, found))
-                else:
-                    if name == b"range":
-                        # (where it ends before it begins no shard is asked)
-                        low, high = routing.route_range(bounds, first, second) if first < second else (0, -1)
-                        found = [shard for shard in range(low, high + 1) if most[shard]]
-                    else:
-                        found = [shard for shard in everywhere if most[shard]]
-                        if name == b"back":
-                            found.reverse()
-                    for shard in found:
-                        asked[shard].append(line)
-                    if name == b"clear":
-                        least[:] = most[:] = [0] * len(least)
-                        present.clear()
-                        add((_CLEAR, found))
-                    else:
-                        add((_JOIN, found))
-        return plan, asked
-
-    def _combined(self, plan: list, lengths: list[int], came: dict[int, list[bytes]]) -> list[bytes]:
-        """The answers to the lines of a plan, by those of the shards, with the lengths before them."""
-        nexts = [iter(came.get(shard, ())).__next__ for shard in range(len(lengths))]
-        answers: list[bytes] = []
-        add = answers.append
-        try:
-            for step in plan:
-                if step.__class__ is int:
-                    if step < 0:
-                        add(nexts[~step]())
-                    else:
-                        answer = nexts[step]()
-                        if answer == b"new":
-                            lengths[step] += 1
-                        elif answer.startswith(b"gone"):
-                            lengths[step] -= 1
-                        add(answer)
-                elif step.__class__ is bytes:
-                    add(step)
-                else:
-                    how, shards = step
-                    if how is _RANK:
-                        where, own = nexts[shards]().split()
-                        add(b"%b %d" % (where, routing.rank_of_whole(lengths, shards, int(own))))
-                        continue
-                    said = [nexts[shard]() for shard in shards]
-                    if how is _LEN:
-                        add(b"%d" % routing.len_of_whole(lengths))
-                    elif how is _FIRST:
-                        add(routing.first_found(said))
-                    elif how is _JOIN:
-                        add(routing.joined(said))
-                    else:
-                        lengths[:] = [0] * len(lengths)
-                        add(b"cleared")
-        except StopIteration:
-            raise BrokenError("a shard gave fewer answers than lines") from None
-        return answers
-
-    # Calls for one key or one range, as lines. Each asks the fewest shards that can answer.
+    # Calls for one key or one range, as lines. Each sends messages to as few shards as possible.
 
     def _one(self, shard: int, line: bytes) -> bytes:
         return self._ask({shard: [line]})[shard][0]
@@ -300,15 +159,15 @@ class Shards:
         """Puts a value at a key, and gives the one that was there."""
         shard = self._shard(key)
         _see(value)
-        answer = self._one(shard, b"put %d %d" % (key, value))
+        reply = self._one(shard, b"put %d %d" % (key, value))
         self._balance()
-        return None if answer == b"new" else int(answer.split()[1])
+        return None if reply == b"new" else int(reply.split()[1])
 
     def delete(self, key: int) -> int | None:
         """Removes a key, and gives the value that was there."""
-        answer = self._one(self._shard(key), b"del %d" % key)
+        reply = self._one(self._shard(key), b"del %d" % key)
         self._balance()
-        return None if answer == b"none" else int(answer.split()[1])
+        return None if reply == b"none" else int(reply.split()[1])
 
     def contains(self, key: int) -> bool:
         """Whether a key is there."""
@@ -320,9 +179,9 @@ class Shards:
         where, own = self._one(shard, b"rank %d" % key).split()
         return where == b"in", routing.rank_of_whole(self.lengths(), shard, int(own))
 
-    def at(self, place: int) -> tuple[int, int] | None:
-        """The pair at a place in the order of the keys, from 0 on."""
-        found = routing.locate(self.lengths(), place)
+    def at(self, index: int) -> tuple[int, int] | None:
+        """The pair at an index in the order of the keys. The first index is 0."""
+        found = routing.locate(self.lengths(), index)
         return None if found is None else _pair(self._one(found[0], b"at %d" % found[1]))
 
     def _end(self, shard: int | None, line: bytes) -> tuple[int, int] | None:
@@ -384,7 +243,7 @@ class Shards:
 
     def back(self) -> list[tuple[int, int]]:
         """All pairs, from the greatest key down."""
-        found = [shard for shard in range(len(self._cluster.places) - 1, -1, -1) if self._cluster.places[shard].length]
+        found = [shard for shard in range(len(self._cluster.locations) - 1, -1, -1) if self._cluster.locations[shard].length]
         return self._of_all(found, [b"back"] * len(found))
 
     def page(self, number: int, size: int) -> list[tuple[int, int]]:
@@ -395,8 +254,8 @@ class Shards:
         return self._of_all([part.shard for part in found], [b"from %d %d" % (part.start, part.count) for part in found])
 
     def _of_all(self, shards: list[int], lines: list[bytes]) -> list[tuple[int, int]]:
-        answers = self._ask({shard: [line] for shard, line in zip(shards, lines)})
-        return _pairs(routing.joined(answers[shard][0] for shard in shards))
+        replies = self._ask({shard: [line] for shard, line in zip(shards, lines)})
+        return _pairs(routing.joined(replies[shard][0] for shard in shards))
 
     def _shard(self, key: int) -> int:
         _see(key)
@@ -422,9 +281,13 @@ class Shards:
         """Stores each value at its key, all of them or none. Of equal keys the last value stays."""
         self._arrays.put_many(keys, values)
 
-    def delete_many(self, keys):
+    def del_many(self, keys):
         """Removes the keys, all of them or none, and returns whether each was there. Of a key that comes twice the second is not."""
-        return self._arrays.delete_many(keys)
+        return self._arrays.del_many(keys)
+
+    def delete_many(self, keys):
+        """The earlier name of ``del_many``, which stays as an alias."""
+        return self.del_many(keys)
 
     def rank_many(self, keys):
         """How many keys are smaller than each of these: an array of ``int64``."""
@@ -474,7 +337,7 @@ class Shards:
             while self._move():
                 pass
         except ShardError:
-            # (there is no room to move pairs, say: what is not moved stays where it is for now)
+            # (the disk may be full, for example. The pairs stay in their shard until a later attempt)
             self._held_up = time.monotonic() + 1
 
     def _move(self) -> bool:
@@ -499,28 +362,28 @@ class Shards:
 
     async def _split(self, shard: int) -> None:
         cluster = self._cluster
-        place = cluster.places[shard]
-        high = cluster.highs()[place]
-        fresh = cluster.fresh((await cluster.call(place, "middle"))["bound"], high)
+        location = cluster.locations[shard]
+        high = cluster.highs()[location]
+        fresh = cluster.fresh((await cluster.call(location, "middle"))["bound"], high)
         try:
-            await cluster.move(place, fresh.low, fresh, high)
-            places = cluster.places[: shard + 1] + [fresh] + cluster.places[shard + 1 :]
-            cluster.write_table(places)
+            await cluster.move(location, fresh.low, fresh, high)
+            locations = cluster.locations[: shard + 1] + [fresh] + cluster.locations[shard + 1 :]
+            cluster.write_table(locations)
         except BaseException:
             await cluster.drop([fresh])
             raise
-        cluster.places = places
+        cluster.locations = locations
         self._see_bounds()
         cluster.counts["splits"] += 1
-        place.length -= fresh.length
-        await self._cut(place, fresh.low)
+        location.length -= fresh.length
+        await self._cut(location, fresh.low)
 
-    async def _cut(self, place: Place, high: int) -> None:
+    async def _cut(self, location: Location, high: int) -> None:
         try:
-            place.length = (await self._cluster.call(place, "cut", high=high))["length"]
+            location.length = (await self._cluster.call(location, "cut", high=high))["length"]
         except BaseException as error:
             # (its pairs from there on are removed when it is opened)
-            self._cluster.forget(place)
+            self._cluster.forget(location)
             if not isinstance(error, ShardError):
                 raise
 
@@ -530,16 +393,16 @@ class Shards:
 
     async def _merge(self, left: int) -> None:
         cluster = self._cluster
-        place, other = cluster.places[left], cluster.places[left + 1]
-        places = cluster.places[: left + 1] + cluster.places[left + 2 :]
+        location, other = cluster.locations[left], cluster.locations[left + 1]
+        locations = cluster.locations[: left + 1] + cluster.locations[left + 2 :]
         try:
-            await cluster.move(other, other.low, place, cluster.highs()[other])
-            cluster.write_table(places)
+            await cluster.move(other, other.low, location, cluster.highs()[other])
+            cluster.write_table(locations)
         except BaseException:
             # (what it has of the other is removed when it is opened)
-            await cluster.close([place])
+            await cluster.close([location])
             raise
-        cluster.places = places
+        cluster.locations = locations
         self._see_bounds()
         cluster.counts["merges"] += 1
         await cluster.drop([other])
@@ -548,10 +411,11 @@ class Shards:
         """Closes the shards, which stay in the folder."""
         if self._lock >= 0:
             try:
-                self._run(self._cluster.close, self._cluster.places)
+                self._run(self._cluster.close, self._cluster.locations)
             except Exception:
                 # (the client of Dask was closed before)
                 pass
+            self._cluster.end()
             os.close(self._lock)
             self._lock = -1
 
@@ -563,8 +427,6 @@ class Shards:
 
 
 _CHANGES = frozenset({b"put", b"del", b"clear"})
-_BY_PLACE = frozenset({b"at", b"page"})
-_RANK, _LEN, _FIRST, _JOIN, _CLEAR = object(), object(), object(), object(), object()
 
 
 def _see(number: int) -> None:
@@ -572,16 +434,16 @@ def _see(number: int) -> None:
         raise OverflowError(f"{number} is not from 0 to 2**64 - 1")
 
 
-def _number(answer: bytes) -> int | None:
-    return None if answer == b"none" else int(answer)
+def _number(reply: bytes) -> int | None:
+    return None if reply == b"none" else int(reply)
 
 
-def _pair(answer: bytes) -> tuple[int, int] | None:
-    if answer == b"none":
+def _pair(reply: bytes) -> tuple[int, int] | None:
+    if reply == b"none":
         return None
-    key, value = answer.split()
+    key, value = reply.split()
     return int(key), int(value)
 
 
-def _pairs(answer: bytes) -> list[tuple[int, int]]:
-    return [] if answer == b"empty" else [_pair(it) for it in answer.split(b",")]
+def _pairs(reply: bytes) -> list[tuple[int, int]]:
+    return [] if reply == b"empty" else [_pair(it) for it in reply.split(b",")]

@@ -26,12 +26,17 @@ class LostError(ShardError):
 
 
 class BatchError(ShardError):
-    """A batch of lines failed, for a reason in ``error``. ``answers`` are those to the batches before it; it has none itself."""
+    """A batch of lines failed. ``error`` is the reason, and ``replies`` has the replies to the batches before it."""
 
-    def __init__(self, error: Exception, answers: list[bytes]):
-        super().__init__(error, answers)
+    def __init__(self, error: Exception, replies: list[bytes]):
+        super().__init__(error, replies)
         self.error = error
-        self.answers = answers
+        self.replies = replies
+
+    @property
+    def answers(self) -> list[bytes]:
+        """The earlier name of ``replies``, which stays as an alias."""
+        return self.replies
 
     def __str__(self) -> str:
         return str(self.error)

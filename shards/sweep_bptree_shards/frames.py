@@ -32,17 +32,17 @@ def to_dask_dataframe(shards):
     cluster, client = shards._cluster, shards.client
     for turn in (1, 2, 3):
         lengths = shards.lengths()
-        futures = [client.submit(_frame_of, place.handle, workers=[place.worker], pure=False) for place in cluster.places]
+        futures = [client.submit(_frame_of, location.handle, workers=[location.worker], pure=False) for location in cluster.locations]
         wait(futures)
-        gone = [place for place, future in zip(cluster.places, futures) if future.status != "finished"]
+        gone = [location for location, future in zip(cluster.locations, futures) if future.status != "finished"]
         if not gone:
             break
         if turn == 3:
-            raise ShardError("the shards can't be copied: a worker is gone") from futures[cluster.places.index(gone[0])].exception()
-        for place in gone:
-            cluster.forget(place)
+            raise ShardError("the shards can't be copied: a worker is gone") from futures[cluster.locations.index(gone[0])].exception()
+        for location in gone:
+            cluster.forget(location)
     last = shards.last() if sum(lengths) else None
-    lows = [place.low for place in cluster.places]
+    lows = [location.low for location in cluster.locations]
     divisions = [*lows, max(lows[-1], last[0] if last else 0)]
     return dask.dataframe.from_delayed(futures, meta=_frame(array("Q"), array("Q")), divisions=divisions, verify_meta=False)
 
@@ -68,25 +68,25 @@ def from_dask_dataframe(shards, frame, column: str) -> None:
     lows = [0, *map(int, frame.divisions[1:-1])]
     if lows != sorted(set(lows)) or int(frame.divisions[0]) < 0:
         raise ValueError(f"the divisions do not ascend from 0 on: {frame.divisions}")
-    places = [cluster.fresh(low, high) for low, high in zip(lows, [*lows[1:], None])]
+    locations = [cluster.fresh(low, high) for low, high in zip(lows, [*lows[1:], None])]
     try:
         futures = [
             client.submit(
                 _stored,
                 partition,
                 column,
-                folder=os.path.join(cluster.folder, place.name),
-                low=place.low,
-                high=place.high,
+                folder=os.path.join(cluster.folder, location.name),
+                low=location.low,
+                high=location.high,
                 sync=cluster.sync,
                 pure=False,
             )
-            for place, partition in zip(places, client.compute(frame.to_delayed()))
+            for location, partition in zip(locations, client.compute(frame.to_delayed()))
         ]
         client.gather(futures)
-        shards._run(cluster.replace, places)
+        shards._run(cluster.replace, locations)
     except BaseException:
-        shards._run(cluster.drop, places)
+        shards._run(cluster.drop, locations)
         raise
     shards._see_bounds()
     shards._balance()

@@ -1,17 +1,19 @@
 """The map of one shard, by the functions for C: calls for arrays of keys, and the lines of the program.
 
-Arrays are addresses of 64-bit words, or of bytes that are 1 where a key was found. Beside the lines of the program there are three
-that answer as ``all`` does: ``from j c``, the c pairs from index j on; ``ahead k c``, the c pairs from key k on; and
-``behind k c``, the c pairs from key k back.
+Arrays are passed by their addresses. They have words of 64 bits, or bytes that are 1 for a key that was found and else 0. A shard
+takes the lines of the program and three more, with replies of the same form as that of ``all``: ``from j c`` returns c pairs from
+index j on, ``ahead k c`` returns c pairs from key k on, and ``behind k c`` returns c pairs from key k downward.
 """
 
 from __future__ import annotations
 
 import sys
 from array import array
+from collections.abc import Callable
 from ctypes import addressof, byref, c_char, c_size_t, c_uint64
 
 from .errors import OutOfMemoryError, ShardError
+from .lines import GREATEST
 
 __all__ = ["Map", "address", "words"]
 
@@ -35,11 +37,6 @@ def address(view) -> tuple[int, object]:
     return copy.buffer_info()[0], copy
 
 
-def _said(words: list[int]) -> bytes:
-    """Keys and values in turn, as an answer."""
-    return b",".join(b"%d %d" % pair for pair in zip(words[::2], words[1::2])) or b"empty"
-
-
 class Map:
     """A map from numbers to numbers."""
 
@@ -52,12 +49,15 @@ class Map:
             self._call = _library.functions()
         except (ImportError, OSError) as error:
             raise ShardError(f"a shard needs the package sweep_bptree and its library, on each worker: {error}") from error
-        self._results = _library.NO_MEMORY, _library.REPLACED, _library.REMOVED
         self._map = _library.Handle()
         self._ref = byref(self._map)
         self._pair = _library.Pair()
-        self._number = c_uint64()
         self._size = c_size_t()
+        self._commands = {
+            **_value_commands(self._call, self._ref, (_library.NO_MEMORY, _library.REPLACED, _library.REMOVED)),
+            **_pair_commands(self._call, self._ref, self._pair),
+            **_list_commands(self._call, self._ref, self._pair),
+        }
         if not self._call["new"](self._ref):
             raise OutOfMemoryError("an allocation failed for a map")
 
@@ -75,21 +75,6 @@ class Map:
         given = [word for at in arrays for word in (at, count)]
         if self._call[kind + "_many"](self._ref, *given) is False:
             raise OutOfMemoryError("an allocation failed for pairs: none of them was stored")
-
-    def piece(self, count: int) -> int:
-        """Of so many pairs that are put, how many one call should put.
-
-        The library makes all nodes anew for a sixteenth of the pairs that there are, or more. Below a sixth it was slower than to put
-        smaller pieces one after another.
-        """
-        length = len(self)
-        return length // 16 - 1 if length >= 1024 and length // 16 <= count < length // 6 else count
-
-    def put_pieces(self, count: int, keys_at: int, values_at: int) -> None:
-        """Puts so many pairs. If an allocation fails, the pieces before it stay."""
-        size = self.piece(count)
-        for start in range(0, count, size):
-            self.many("put", min(size, count - start), [keys_at + 8 * start, values_at + 8 * start])
 
     def put_many(self, keys, values) -> None:
         """Stores pairs, whose keys and values are words in two buffers: all of them or none."""
@@ -110,7 +95,7 @@ class Map:
         return keys, values
 
     def keep(self, start: int, end: int) -> None:
-        """Removes all pairs but those from one index on and before another. If an allocation fails, none is removed."""
+        """Removes all pairs outside a range of indexes. If an allocation fails, the map is unchanged."""
         keys, values = self.copy(start, end)
         fresh = Map()
         fresh.put_many(keys, values)
@@ -120,72 +105,110 @@ class Map:
         self._call["at"](self._ref, index, byref(self._pair))
         return self._pair.key
 
-    def _copied(self, name: str, start: int, count: int) -> array:
-        found = words(2 * count)
-        came = self._call[name](self._ref, start, found.buffer_info()[0], count)
-        return found[: 2 * came]
-
-    def answer(self, text: bytes) -> bytes:
-        """The answers to these lines, each of which is a request."""
-        call, ref = self._call, self._ref
-        get, put, delete, rank, at = call["get"], call["put"], call["del"], call["rank"], call["at"]
-        ends = {b"first": call["first"], b"last": call["last"]}
-        beside = {b"next": call["next"], b"prev": call["prev"]}
-        pair, number, size = self._pair, self._number, self._size
-        pair_ref, number_ref, size_ref = byref(pair), byref(number), byref(size)
-        no_memory, replaced, removed = self._results
-        answers = []
-        say = answers.append
+    def execute(self, text: bytes) -> bytes:
+        """Carries out lines, each of which is a valid request, and returns their replies."""
+        commands = self._commands
+        replies = []
+        add = replies.append
         for line in text.split(b"\n")[:-1]:
             words = line.split()
-            name = words[0]
-            if name == b"get":
-                say(b"%d" % number.value if get(ref, int(words[1]), number_ref) else b"none")
-            elif name == b"put":
-                code = put(ref, int(words[1]), int(words[2]), number_ref)
-                if code == no_memory:
-                    raise OutOfMemoryError("an allocation failed for a pair")
-                say(b"old %d" % number.value if code == replaced else b"new")
-            elif name == b"del":
-                code = delete(ref, int(words[1]), number_ref)
-                if code == no_memory:
-                    raise OutOfMemoryError("an allocation failed for a removal")
-                say(b"gone %d" % number.value if code == removed else b"none")
-            elif name == b"rank":
-                is_in = rank(ref, int(words[1]), size_ref)
-                say(b"in %d" % size.value if is_in else b"out %d" % size.value)
-            elif name == b"at":
-                say(b"%d %d" % (pair.key, pair.value) if at(ref, int(words[1]), pair_ref) else b"none")
-            elif name in beside:
-                is_there = beside[name](ref, int(words[1]), pair_ref)
-                say(b"%d %d" % (pair.key, pair.value) if is_there else b"none")
-            elif name in ends:
-                say(b"%d %d" % (pair.key, pair.value) if ends[name](ref, pair_ref) else b"none")
-            elif name == b"range":
-                start, end = int(words[1]), int(words[2])
-                say(_said(self._copied("range", start, call["range_len"](ref, start, end)).tolist()))
-            elif name == b"ahead" or name == b"behind":
-                count = min(int(words[2]), len(self))
-                say(_said(self._copied("range" if name == b"ahead" else "range_back", int(words[1]), count).tolist()))
-            elif name == b"from" or name == b"page":
-                start, count = int(words[1]), int(words[2])
-                if name == b"page":
-                    start *= count
-                count = min(count, max(len(self) - start, 0))
-                if count:
-                    at(ref, start, pair_ref)
-                say(_said(self._copied("range", pair.key, count).tolist()))
-            elif name == b"len":
-                say(b"%d" % len(self))
-            elif name == b"all":
-                say(_said(self._copied("range", 0, len(self)).tolist()))
-            elif name == b"back":
-                say(_said(self._copied("range_back", (1 << 64) - 1, len(self)).tolist()))
-            elif name == b"clear":
-                if not call["clear"](ref):
-                    raise OutOfMemoryError("an allocation failed for an empty map")
-                say(b"cleared")
-            else:
+            command = commands.get(words[0])
+            if command is None:
                 raise ShardError(f"{line!r} is no request of a shard")
-        answers.append(b"")
-        return b"\n".join(answers)
+            add(command(words))
+        add(b"")
+        return b"\n".join(replies)
+
+
+# A command takes the words of a line, and returns the reply. These functions make the commands of one map, by their names, over the
+# functions for C and the reference to the map that they all take.
+Commands = dict[bytes, Callable[[list[bytes]], bytes]]
+
+
+def _value_commands(call: dict, ref, codes: tuple[int, int, int]) -> Commands:
+    get, put, delete, rank = call["get"], call["put"], call["del"], call["rank"]
+    no_memory, replaced, removed = codes
+    number, size = c_uint64(), c_size_t()
+    number_ref, size_ref = byref(number), byref(size)
+
+    def get_value(words: list[bytes]) -> bytes:
+        return b"%d" % number.value if get(ref, int(words[1]), number_ref) else b"none"
+
+    def put_pair(words: list[bytes]) -> bytes:
+        code = put(ref, int(words[1]), int(words[2]), number_ref)
+        if code == no_memory:
+            raise OutOfMemoryError("an allocation failed for a pair")
+        return b"old %d" % number.value if code == replaced else b"new"
+
+    def delete_key(words: list[bytes]) -> bytes:
+        code = delete(ref, int(words[1]), number_ref)
+        if code == no_memory:
+            raise OutOfMemoryError("an allocation failed for a removal")
+        return b"gone %d" % number.value if code == removed else b"none"
+
+    def rank_of_key(words: list[bytes]) -> bytes:
+        is_in = rank(ref, int(words[1]), size_ref)
+        return b"in %d" % size.value if is_in else b"out %d" % size.value
+
+    return {b"get": get_value, b"put": put_pair, b"del": delete_key, b"rank": rank_of_key}
+
+
+def _pair_commands(call: dict, ref, pair) -> Commands:
+    """The commands whose reply is one pair, which the functions write to ``pair``."""
+    pair_ref = byref(pair)
+
+    def by_number(name: str) -> Callable[[list[bytes]], bytes]:
+        function = call[name]
+        return lambda words: b"%d %d" % (pair.key, pair.value) if function(ref, int(words[1]), pair_ref) else b"none"
+
+    def at_end(name: str) -> Callable[[list[bytes]], bytes]:
+        function = call[name]
+        return lambda words: b"%d %d" % (pair.key, pair.value) if function(ref, pair_ref) else b"none"
+
+    return {
+        b"at": by_number("at"),
+        b"next": by_number("next"),
+        b"prev": by_number("prev"),
+        b"first": at_end("first"),
+        b"last": at_end("last"),
+    }
+
+
+def _list_commands(call: dict, ref, pair) -> Commands:
+    """The commands of many pairs, or of all."""
+    length = call["len"]
+
+    def pairs(name: str, key: int, count: int) -> bytes:
+        """So many pairs from a key on: upward by the function ``range``, downward by ``range_back``."""
+        found = array("Q", bytes(16 * count))
+        came = call[name](ref, key, found.buffer_info()[0], count)
+        numbers = found[: 2 * came].tolist()
+        return b",".join(b"%d %d" % it for it in zip(numbers[::2], numbers[1::2])) or b"empty"
+
+    def pairs_at(index: int, count: int) -> bytes:
+        """So many pairs from an index on."""
+        count = min(count, max(length(ref) - index, 0))
+        if count:
+            call["at"](ref, index, byref(pair))
+        return pairs("range", pair.key, count)
+
+    def pairs_within(words: list[bytes]) -> bytes:
+        start, end = int(words[1]), int(words[2])
+        return pairs("range", start, call["range_len"](ref, start, end))
+
+    def clear(words: list[bytes]) -> bytes:
+        if not call["clear"](ref):
+            raise OutOfMemoryError("an allocation failed for an empty map")
+        return b"cleared"
+
+    return {
+        b"range": pairs_within,
+        b"ahead": lambda words: pairs("range", int(words[1]), min(int(words[2]), length(ref))),
+        b"behind": lambda words: pairs("range_back", int(words[1]), min(int(words[2]), length(ref))),
+        b"from": lambda words: pairs_at(int(words[1]), int(words[2])),
+        b"page": lambda words: pairs_at(int(words[1]) * int(words[2]), int(words[2])),
+        b"all": lambda words: pairs("range", 0, length(ref)),
+        b"back": lambda words: pairs("range_back", GREATEST, length(ref)),
+        b"len": lambda words: b"%d" % length(ref),
+        b"clear": clear,
+    }

@@ -10,7 +10,7 @@ from __future__ import annotations
 import asyncio
 import os
 from array import array
-from concurrent.futures import ThreadPoolExecutor, wait
+from concurrent.futures import ThreadPoolExecutor
 
 from distributed.protocol import to_serialize
 
@@ -47,12 +47,11 @@ class Host:
     def __init__(self, worker):
         self._worker = worker
         self._shards: dict[int, Shard] = {}
-        # One thread, so that a shard does one thing at a time, and some that wait for the disk.
+        # One thread, so that a shard does one thing at a time.
         self._thread = ThreadPoolExecutor(1, "shards")
-        self._flushes = ThreadPoolExecutor(8, "shards-flush")
 
     async def serve(self, what: str = "", parts: bytes = b"", columns=(), **given) -> dict:
-        """The answer to a message. It has the name and the words of an error, if one was raised."""
+        """Handles a message, and returns the reply. If an error was raised, the reply has its name and its text."""
         try:
             if what == "move":
                 return await self._move(**given)
@@ -91,7 +90,7 @@ class Host:
                 continue
             handle = int.from_bytes(os.urandom(7), "little")
             self._shards[handle] = shard
-            opened.append({"handle": handle, "length": len(shard)})
+            opened.append({"handle": handle, "length": len(shard), "numbers": shard.numbers()})
         return {"opened": opened}
 
     def _release(self, folder: str) -> dict:
@@ -123,27 +122,19 @@ class Host:
             return self._read(kind, shards, sizes, columns)
         batches = list(zip(shards, parts[1::3], _split(columns, widths, sizes)))
         is_change = [changes(kind, piece) for _, _, piece in batches]
-        flushes = []
         try:
-            done = [
-                shard.begin(client, number, kind, piece) if it else None for it, (shard, number, piece) in zip(is_change, batches)
-            ]
-            # (the maps change while the disk writes)
-            flushes = [self._flushes.submit(shard.flush) for it, said, shard in zip(is_change, done, shards) if it and said is None]
+            done = [shard.begin(client, number, kind, piece) if it else None for it, (shard, number, piece) in zip(is_change, batches)]
             for at, (shard, number, piece) in enumerate(batches):
                 if done[at] is None:
                     done[at] = shard.finish(client, number, kind, piece) if is_change[at] else shard.lines(bytes(piece[0]))
-            for flush in flushes:
-                flush.result()
         except BaseException:
             # (the client has the other workers cancel theirs)
-            wait(flushes)
             for shard, number, _ in batches:
                 shard.cancel(client, number)
             raise
-        return self._answered(shards, done)
+        return self._reply_to_changes(shards, done)
 
-    def _answered(self, shards: list[Shard], said: list[bytes]) -> dict:
+    def _reply_to_changes(self, shards: list[Shard], said: list[bytes]) -> dict:
         return reply_of([word for shard, it in zip(shards, said) for word in (len(shard), len(it))], [b"".join(said)])
 
     def _read(self, kind: str, shards: list[Shard], sizes: array, columns: list) -> dict:
@@ -160,6 +151,18 @@ class Host:
                 start += size
             del keys
         return reply_of([word for shard, size in zip(shards, sizes) for word in (len(shard), size)], found)
+
+    def _redo(self, batches: list) -> dict:
+        """Has shards carry out batches that they have not done, and returns how many pairs each of them has then."""
+        for handle, *batch in batches:
+            self._shard(handle).redo(*batch)
+        return {"lengths": [(handle, len(self._shard(handle))) for handle in {handle for handle, *_ in batches}]}
+
+    def _to_disk(self, handles: list) -> dict:
+        """Brings the logs of shards to the disk."""
+        for handle in handles:
+            self._shard(handle).to_disk()
+        return {}
 
     def _cancel(self, client: bytes, batches: list) -> dict:
         for handle, number in batches:

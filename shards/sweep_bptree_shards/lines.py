@@ -7,7 +7,7 @@ __all__ = ["GREATEST", "LONGEST", "request"]
 GREATEST = (1 << 64) - 1
 # A line that is longer is none of them.
 LONGEST = 48
-# How many numbers stand behind a name.
+# How many numbers follow a name.
 _NUMBERS = {
     b"get": 1, b"put": 2, b"del": 1, b"rank": 1, b"at": 1, b"next": 1, b"prev": 1, b"range": 2, b"page": 2,
     b"first": 0, b"last": 0, b"len": 0, b"all": 0, b"back": 0, b"clear": 0,
@@ -15,7 +15,7 @@ _NUMBERS = {
 
 
 def request(line: bytes) -> tuple[bytes, int, int] | None:
-    """The name of the request of a line and its numbers, 0 in the place of one that it has not; ``None`` of a bad line."""
+    """The name of the request of a line and its numbers, 0 for one that it lacks; ``None`` of a bad line."""
     words = line.split(b" ")
     name = words[0]
     count = _NUMBERS.get(name)

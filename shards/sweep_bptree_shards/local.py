@@ -20,7 +20,10 @@ def local_client(workers: int = 3) -> Iterator[Client]:
     logging.getLogger("distributed").setLevel(logging.CRITICAL)
     # (for the processes of the workers)
     os.environ.setdefault("DASK_LOGGING__DISTRIBUTED", "critical")
-    with tempfile.TemporaryDirectory(prefix="sweep-bptree-") as folder, dask.config.set({"temporary-directory": folder}):
+    # (a worker that ends is started again. But if it is not there 15 seconds after it ended, since its start takes long or it ended a
+    # second time, Dask by default gives it up for good)
+    settings = {"distributed.deploy.lost-worker-timeout": "1000 hours"}
+    with tempfile.TemporaryDirectory(prefix="sweep-bptree-") as folder, dask.config.set({"temporary-directory": folder, **settings}):
         cluster = LocalCluster(
             n_workers=workers,
             threads_per_worker=1,
@@ -32,7 +35,7 @@ def local_client(workers: int = 3) -> Iterator[Client]:
             silence_logs=logging.CRITICAL,
             # (a map is no result of a task that Dask could put aside)
             memory_limit=0,
-            # (none is used here, and a worker that is closed twice at once fails in one of them)
+            # (no extension is used here, and one of them fails if a worker is closed twice at once)
             extensions={},
         )
         try:

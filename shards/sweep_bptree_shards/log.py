@@ -15,11 +15,13 @@ from collections.abc import Iterable, Iterator
 
 from .errors import BrokenError, InUseError, NotWrittenError
 
-__all__ = ["Log", "Store", "read_records", "write_whole"]
+__all__ = ["Log", "Store", "read_records", "sync_folder", "write_whole"]
 
 _HEAD = struct.Struct("<II")
 # A record has at most so many bytes, so that a torn length does not read far.
 _MOST = 1 << 31
+# One call of the system writes at most so many buffers.
+_BUFFERS = 64
 
 
 def _record(*pieces) -> list:
@@ -49,16 +51,20 @@ def read_records(data: bytes) -> Iterator[tuple[int, memoryview]]:
 
 def _write(file: int, pieces: Iterable) -> int:
     """Writes all of these bytes, and returns how many they are."""
-    length = 0
-    for piece in pieces:
-        rest = memoryview(piece)
-        length += len(rest)
-        while rest:
-            rest = rest[os.write(file, rest) :]
+    rest = [memoryview(piece) for piece in pieces if len(piece)]
+    length = sum(map(len, rest))
+    at = 0
+    while at < len(rest):
+        done = os.writev(file, rest[at : at + _BUFFERS])
+        while at < len(rest) and done >= len(rest[at]):
+            done -= len(rest[at])
+            at += 1
+        if done:
+            rest[at] = rest[at][done:]
     return length
 
 
-def _sync_folder(folder: str) -> None:
+def sync_folder(folder: str) -> None:
     file = os.open(folder, os.O_RDONLY | os.O_DIRECTORY)
     try:
         os.fsync(file)
@@ -79,7 +85,7 @@ def write_whole(path: str, pieces: Iterable, sync: bool = True) -> int:
             os.close(file)
         os.rename(beside, path)
         if sync:
-            _sync_folder(os.path.dirname(path))
+            sync_folder(os.path.dirname(path))
         return length
     except OSError as error:
         try:
@@ -97,7 +103,7 @@ class Log:
         self.sync = sync
         self._file = os.open(path, os.O_RDWR | os.O_CREAT | os.O_CLOEXEC, 0o666)
         self._is_torn = False
-        #: the records with the position where each begins
+        #: each record with the offset of its first byte
         self.records: list[tuple[int, memoryview]] = []
         self.length = 0
         with open(path, "rb") as it:
@@ -142,10 +148,14 @@ class Log:
     def flush(self) -> None:
         """With ``sync``, waits for the disk."""
         if self.sync:
-            try:
-                os.fdatasync(self._file)
-            except OSError as error:
-                raise NotWrittenError(f"{self.path} cannot be written: {error.strerror}") from error
+            self.to_disk()
+
+    def to_disk(self) -> None:
+        """Waits for the disk."""
+        try:
+            os.fdatasync(self._file)
+        except OSError as error:
+            raise NotWrittenError(f"{self.path} cannot be written: {error.strerror}") from error
 
     def close(self) -> None:
         if self._file >= 0:
@@ -216,7 +226,7 @@ class Store:
                 if name.endswith(".new") or (name.startswith("log-") and name != f"log-{self.turn}"):
                     os.unlink(os.path.join(self.folder, name))
             if self.sync:
-                _sync_folder(self.folder)
+                sync_folder(self.folder)
         except OSError as error:
             raise NotWrittenError(f"{self.folder} cannot be opened: {error.strerror}") from error
 

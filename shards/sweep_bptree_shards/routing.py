@@ -1,7 +1,7 @@
-"""Which shards a call goes to, and how their answers make the answer of the whole list.
+"""Routes calls to shards, and combines the results of shards into the result for the whole list.
 
-The shards are consecutive pieces of one ascending list, cut at ascending bounds; a shard may be empty. These functions are over
-bounds, lengths and answers alone. Those up to ``parts`` have the names of the proved ones in ``crates/bptree_shards``.
+The shards are consecutive pieces of one ascending list, cut at ascending bounds. A shard may be empty. These functions take bounds,
+lengths and replies, and use nothing else. Those up to ``parts`` have the names of the proved functions in ``crates/bptree_shard_routing``.
 """
 
 from __future__ import annotations
@@ -11,13 +11,27 @@ from collections.abc import Iterable, Sequence
 from typing import NamedTuple
 
 __all__ = [
-    "Part", "route", "route_below", "route_range", "len_of_whole", "rank_of_whole", "locate", "first_full", "next_full", "prev_full",
-    "last_full", "next_part", "parts", "till_full", "first_found", "joined",
+    "Part",
+    "route",
+    "route_below",
+    "route_range",
+    "len_of_whole",
+    "rank_of_whole",
+    "locate",
+    "first_full",
+    "next_full",
+    "prev_full",
+    "last_full",
+    "next_part",
+    "parts",
+    "till_full",
+    "first_found",
+    "joined",
 ]
 
 
 class Part(NamedTuple):
-    """Pairs of one shard: so many from a place in it on."""
+    """A run of pairs in one shard: ``count`` pairs from the index ``start`` on."""
 
     shard: int
     start: int
@@ -25,17 +39,17 @@ class Part(NamedTuple):
 
 
 def route(bounds: Sequence[int], key: int) -> int:
-    """The number of the shard that has a key, or would have it. A key that equals a bound stands behind it."""
+    """The number of the shard that a key belongs to. A key that equals a bound belongs to the shard after the bound."""
     return bisect_right(bounds, key)
 
 
 def route_below(bounds: Sequence[int], key: int) -> int:
-    """The number of the last shard that may have a key below one: a shard that begins with the key has none."""
+    """The number of the last shard that can have a key less than ``key``. A shard whose first key would be ``key`` has no such key."""
     return bisect_left(bounds, key)
 
 
 def route_range(bounds: Sequence[int], lo: int | None, hi: int | None) -> tuple[int, int]:
-    """The first shard and the last one that may have pairs between two keys: from lo on, and below hi, where they are given."""
+    """The first and the last shard that can have pairs with a key that is at least ``lo`` and less than ``hi``. Either may be ``None``."""
     return 0 if lo is None else route(bounds, lo), len(bounds) if hi is None else route_below(bounds, hi)
 
 
@@ -45,16 +59,16 @@ def len_of_whole(lengths: Sequence[int]) -> int:
 
 
 def rank_of_whole(lengths: Sequence[int], shard: int, own: int) -> int:
-    """The number of smaller keys in the whole, where the shard of a key has so many."""
+    """How many keys of the whole list are less than a key, if ``own`` keys of its shard are."""
     return sum(lengths[:shard]) + own
 
 
-def locate(lengths: Sequence[int], place: int) -> tuple[int, int] | None:
-    """The shard that has a place of the whole, and the place in it. ``None`` past the end."""
+def locate(lengths: Sequence[int], index: int) -> tuple[int, int] | None:
+    """The shard that has an index of the whole list, and the index within that shard. ``None`` past the end."""
     for shard, length in enumerate(lengths):
-        if place < length:
-            return shard, place
-        place -= length
+        if index < length:
+            return shard, index
+        index -= length
     return None
 
 
@@ -78,30 +92,30 @@ def last_full(lengths: Sequence[int]) -> int | None:
     return prev_full(lengths, len(lengths))
 
 
-def next_part(lengths: Sequence[int], place: int, n: int) -> Part | None:
-    """The first shard that has pairs of a page: of at most n pairs, from a place of the whole on. ``None`` where it has none."""
-    found = locate(lengths, place) if n else None
+def next_part(lengths: Sequence[int], index: int, n: int) -> Part | None:
+    """The first part of a page of at most ``n`` pairs from an index of the whole list on. ``None`` if the page is empty."""
+    found = locate(lengths, index) if n else None
     if found is None:
         return None
     shard, start = found
     return Part(shard, start, min(n, lengths[shard] - start))
 
 
-def parts(lengths: Sequence[int], place: int, n: int) -> list[Part]:
-    """The parts of a page: of at most n pairs, from a place of the whole on. Each shard that has a pair of it is there once."""
+def parts(lengths: Sequence[int], index: int, n: int) -> list[Part]:
+    """The parts of a page of at most ``n`` pairs from an index of the whole list on: one for each shard that has pairs of the page."""
     found = []
-    while (part := next_part(lengths, place, n)) is not None:
+    while (part := next_part(lengths, index, n)) is not None:
         found.append(part)
-        place += part.count
+        index += part.count
         n -= part.count
     return found
 
 
 def till_full(shards: Iterable[int], least: Sequence[int], most: Sequence[int]) -> list[int]:
-    """Of these shards, in their order, those to be asked for the first pair among them.
+    """Of these shards, in their order, those that have to be asked for the first pair among them.
 
-    A shard has at least and at most so many pairs: one that has none for sure is not asked, and none behind one that has a
-    pair for sure.
+    ``least`` and ``most`` are bounds on the length of each shard. A shard that must be empty is left out, and so are all shards
+    after the first one that must have a pair.
     """
     found = []
     for shard in shards:
@@ -112,11 +126,11 @@ def till_full(shards: Iterable[int], least: Sequence[int], most: Sequence[int]) 
     return found
 
 
-def first_found(answers: Iterable[bytes]) -> bytes:
-    """Of the answers of shards, each a pair or ``none``, in the order in which they were asked: the first pair."""
-    return next((answer for answer in answers if answer != b"none"), b"none")
+def first_found(replies: Iterable[bytes]) -> bytes:
+    """The first reply that is a pair, or ``none``. The replies are in the order of the shards, and each is a pair or ``none``."""
+    return next((reply for reply in replies if reply != b"none"), b"none")
 
 
-def joined(answers: Iterable[bytes]) -> bytes:
-    """The pairs of several shards in one answer, or ``empty``."""
-    return b",".join(answer for answer in answers if answer != b"empty") or b"empty"
+def joined(replies: Iterable[bytes]) -> bytes:
+    """The pairs of several shards in one reply, or ``empty``."""
+    return b",".join(reply for reply in replies if reply != b"empty") or b"empty"

@@ -48,9 +48,10 @@ def changes(kind: str, columns: Sequence) -> bool:
 class Shard:
     """The pairs with a key from ``low`` on and below ``high``, in a folder. It does one batch at a time.
 
-    A batch that changes something is in the log before it is answered. The last answer to each client is kept, so that a batch that
-    is sent again, since its answer did not arrive, is not done again. The snapshot that makes the log short is taken before the
-    next batch. So the last batch can be cancelled, by cutting it off the log. ``cancelled`` has such batches.
+    A batch that changes something is written to the log before the shard replies. The log reaches the disk later: see ``redo.py``.
+    The shard keeps its last reply to each client. If the reply was lost and the client sends the batch again, the shard returns that
+    reply, and does not carry out the batch again. The snapshot that makes the log short is taken before the next batch. So the last
+    batch can be cancelled, by cutting it off the log. ``cancelled`` has such batches.
     """
 
     def __init__(
@@ -65,7 +66,7 @@ class Shard:
         self.folder = os.path.abspath(folder)
         self.low, self.high, self._log_limit = low, high, log_limit
         self._map: Map | None = None
-        # Of the last record of the log: the client, its number, and where it begins.
+        # The last record of the log: its client, the number of its batch, and the offset of its first byte.
         self._last: tuple[bytes, int, int] | None = None
         self._cancelled: dict[bytes, int] = {}
         self._store = Store(self.folder, sync)
@@ -85,7 +86,7 @@ class Shard:
 
     def _load(self) -> None:
         """Does again what the snapshot and the log contain."""
-        self._answered: dict[bytes, tuple[int, bytes]] = {}
+        self._replies: dict[bytes, tuple[int, bytes]] = {}
         held = Map()
         for piece in self._store.pieces:
             if piece[:1] == b"p":
@@ -130,34 +131,33 @@ class Shard:
             held.keep(start, max(start, end))
 
     def _done(self, held: Map, kind: str, columns: Sequence) -> bytes:
-        """Does a batch that changes something, and returns its answer."""
+        """Carries out a batch that changes something, and returns its reply."""
         if kind == TEXT:
-            return held.answer(bytes(columns[0]))
+            return held.execute(bytes(columns[0]))
         count = len(columns[0]) // 8
         if not count:
             return b""
         given = [address(column) for column in columns]
         if kind == "put":
-            held.put_pieces(count, *(at for at, _ in given))
+            held.many(kind, count, [at for at, _ in given])
             return b""
-        answer = array("B", bytes(count))
-        held.many(kind, count, [given[0][0], answer.buffer_info()[0]])
-        return answer.tobytes()
+        reply = array("B", bytes(count))
+        held.many(kind, count, [given[0][0], reply.buffer_info()[0]])
+        return reply.tobytes()
 
-    def _remember(self, client: bytes, number: int, answer: bytes) -> None:
+    def _remember(self, client: bytes, number: int, reply: bytes) -> None:
         # (the one that wrote last is last)
-        self._answered.pop(client, None)
-        self._answered[client] = number, answer
-        if len(self._answered) > _CLIENTS:
-            del self._answered[next(iter(self._answered))]
+        self._replies.pop(client, None)
+        self._replies[client] = number, reply
+        if len(self._replies) > _CLIENTS:
+            del self._replies[next(iter(self._replies))]
 
     def _snapshot(self) -> None:
         keys, values = map(memoryview, self._held().copy())
         pieces = [
-            [b"p" + bytes(7), keys[at : at + _PIECE].cast("B"), values[at : at + _PIECE].cast("B")]
-            for at in range(0, len(keys), _PIECE)
+            [b"p" + bytes(7), keys[at : at + _PIECE].cast("B"), values[at : at + _PIECE].cast("B")] for at in range(0, len(keys), _PIECE)
         ]
-        pieces += [[b"c" + bytes(7), _HEAD.pack(client, number, 0), said] for client, (number, said) in self._answered.items()]
+        pieces += [[b"c" + bytes(7), _HEAD.pack(client, number, 0), said] for client, (number, said) in self._replies.items()]
         self._store.snapshot(pieces)
         self._last = None
 
@@ -171,17 +171,17 @@ class Shard:
         self._held().many(kind, count, arrays)
 
     def lines(self, text: bytes) -> bytes:
-        """The answers to lines that change nothing."""
-        return self._held().answer(text)
+        """Carries out lines that change nothing, and returns their replies."""
+        return self._held().execute(text)
 
     def begin(self, client: bytes, number: int, kind: str, columns: Sequence) -> bytes | None:
-        """Writes a batch that changes something to the log. If it was done before, returns its answer. A client's numbers ascend."""
+        """Writes a batch that changes something to the log. If the batch was done before, returns its reply. A client's numbers ascend."""
         self._held()
-        last, said = self._answered.get(client, (-1, b""))
+        last, said = self._replies.get(client, (-1, b""))
         if number == last:
             return said
         if number < last or number <= self._cancelled.get(client, -1):
-            raise ShardError(f"batch {number} is older than one that was answered or cancelled")
+            raise ShardError(f"batch {number} is older than one that was done or cancelled")
         log = self._store.log
         if log.length > max(self._log_limit, 2 * self._store.snapshot_length):
             try:
@@ -195,22 +195,36 @@ class Shard:
         self._last = client, number, start
         return None
 
-    def flush(self) -> None:
+    def to_disk(self) -> None:
         """Waits until the log is on the disk."""
-        self._store.log.flush()
+        if self._store is None:
+            raise NotOpenError(f"{self.folder} was closed")
+        self._store.log.to_disk()
+
+    def numbers(self) -> dict[str, int]:
+        """The number of the last batch of each client, by the name of the client in hexadecimal digits."""
+        return {client.hex(): number for client, (number, _) in self._replies.items()}
+
+    def redo(self, client: bytes, number: int, kind: str, columns: Sequence) -> None:
+        """Carries out a batch that the log may have lost with its machine, unless the batch was done or cancelled."""
+        last = max(self._replies.get(client, (-1, b""))[0], self._cancelled.get(client, -1))
+        if number > last and changes(kind, columns):
+            self.begin(client, number, kind, columns)
+            self.finish(client, number, kind, columns)
+            # (a part of its keys may have been moved to another shard since)
+            self._keep(self._held())
 
     def finish(self, client: bytes, number: int, kind: str, columns: Sequence) -> bytes:
-        """Does a batch that is in the log, and returns its answer. If that fails, the batch is cancelled."""
+        """Carries out a batch that is in the log, and returns its reply. If that fails, the batch is cancelled."""
         held = self._held()
-        # (one call for an array does all or nothing)
-        is_one_call = kind != TEXT and held.piece(len(columns[0]) // 8) == len(columns[0]) // 8
         try:
-            answer = self._done(held, kind, columns)
+            reply = self._done(held, kind, columns)
         except BaseException:
-            self.cancel(client, number, is_done=not is_one_call)
+            # (the call for an array does all or nothing)
+            self.cancel(client, number, is_done=kind == TEXT)
             raise
-        self._remember(client, number, answer)
-        return answer
+        self._remember(client, number, reply)
+        return reply
 
     def cancel(self, client: bytes, number: int, is_done: bool = True) -> None:
         """Undoes the last batch, if it is this one of a client, in the files too. It is never done later."""
@@ -266,7 +280,7 @@ class Shard:
             self._give_up()
 
     def close(self) -> None:
-        """Lets go of the folder. What was answered is there."""
+        """Closes the files and releases the lock of the folder. Every batch that the shard replied to is stored."""
         if self._store is not None:
             self._store.close()
             self._store = None

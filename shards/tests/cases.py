@@ -1,5 +1,5 @@
-"""Prints cases of the functions of shards with their answers, which it finds from plain lists of pairs in place of sums and
-searches. trials/routes has these lines.
+"""Prints cases of the functions that route calls to shards, each with its result. It finds the results by looking through plain lists
+of pairs, with no sums and no searches. trials/routes has these lines.
 
     python3 shards/tests/cases.py
 """
@@ -8,12 +8,12 @@ BOUNDS = [[], [0], [5], [1, 1, 1], [2, 7, 7], [7, 7, 9], [4, 8, 10]]
 LENGTHS = [[], [0], [5], [3, 0, 4], [0, 2, 0], [1, 1, 1]]
 
 
-def tell(name, numbers, *others):
-    *asked, answer = others
+def write(name, numbers, *others):
+    *asked, result = others
     words = [name, ",".join(map(str, numbers)) or "-", *map(str, asked)]
-    if isinstance(answer, tuple):
-        answer = ",".join(map(str, answer))
-    print(*words, "=", "none" if answer is None else answer)
+    if isinstance(result, tuple):
+        result = ",".join(map(str, result))
+    print(*words, "=", "none" if result is None else result)
 
 
 def keys_of(bounds, key):
@@ -28,22 +28,22 @@ def keys_of(bounds, key):
 for bounds in BOUNDS:
     for key in range(12):
         own, below = keys_of(bounds, key)
-        tell("route", bounds, key, own)
-        tell("route_below", bounds, key, below)
-        tell("route_range", bounds, key, "none", (own, len(bounds)))
-        tell("route_range", bounds, "none", key, (0, below))
+        write("route", bounds, key, own)
+        write("route_below", bounds, key, below)
+        write("route_range", bounds, key, "none", (own, len(bounds)))
+        write("route_range", bounds, "none", key, (0, below))
 
 for lengths in LENGTHS:
     pairs = [(shard, own) for shard, length in enumerate(lengths) for own in range(length)]
     full = [shard for shard, _ in pairs]
-    tell("first_full", lengths, full[0] if full else None)
-    tell("last_full", lengths, full[-1] if full else None)
+    write("first_full", lengths, full[0] if full else None)
+    write("last_full", lengths, full[-1] if full else None)
     for shard in range(len(lengths)):
-        tell("next_full", lengths, shard, min((other for other in full if other > shard), default=None))
-        tell("prev_full", lengths, shard, max((other for other in full if other < shard), default=None))
-    for place in range(9):
-        tell("locate", lengths, place, pairs[place] if place < len(pairs) else None)
+        write("next_full", lengths, shard, min((other for other in full if other > shard), default=None))
+        write("prev_full", lengths, shard, max((other for other in full if other < shard), default=None))
+    for index in range(9):
+        write("locate", lengths, index, pairs[index] if index < len(pairs) else None)
         for most in range(4):
-            page = pairs[place:place + most]
+            page = pairs[index : index + most]
             part = [pair for pair in page if pair[0] == page[0][0]]
-            tell("next_part", lengths, place, most, (*part[0], len(part)) if part else None)
+            write("next_part", lengths, index, most, (*part[0], len(part)) if part else None)

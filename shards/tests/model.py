@@ -1,4 +1,4 @@
-"""What answers are compared with: the program in one process, and a plain sorted array."""
+"""The two references for results: the program in one process, and a plain sorted array."""
 
 from __future__ import annotations
 
@@ -8,7 +8,7 @@ import numpy
 
 
 def by_program(program: str, lines: list[bytes]) -> list[bytes]:
-    """What the program answers."""
+    """The replies of the program."""
     text = b"".join(line + b"\n" for line in lines)
     return subprocess.run([program], input=text, stdout=subprocess.PIPE, check=True).stdout.split(b"\n")[:-1]
 

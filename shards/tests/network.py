@@ -137,9 +137,7 @@ def trial(hub: str, tls: list[str], folder: str, program: str, lines: int, keys:
             words = ["--scheduler", f"tls://{NET}.1:{PORT}", *tls, "--shards", "4", "--folder", os.path.join(folder, "by-module")]
             asked = drawn.lines(5000, 19, 1000)
             module = [sys.executable, "-m", "sweep_bptree_shards", *words]
-            done = subprocess.run(
-                module, input=b"".join(it + b"\n" for it in asked), stdout=subprocess.PIPE, timeout=120, check=True
-            )
+            done = subprocess.run(module, input=b"".join(it + b"\n" for it in asked), stdout=subprocess.PIPE, timeout=120, check=True)
             assert done.stdout.split(b"\n")[:-1] == by_program(program, asked), "the command line"
         print(f"a call took {longest:.1f} s, while a worker was cut off\nsame {same}", flush=True)
 
@@ -149,20 +147,20 @@ def batches(client, by_arrays, by_lines, hub: str, program: str, lines: int, key
     draw = numpy.random.default_rng(4)
     model, size = Model(), keys // TURNS // 4
     asked = drawn.lines(lines, 17, 10_000, max(lines // 50, 1))
-    wanted, answers = by_program(program, asked), []
+    wanted, replies = by_program(program, asked), []
     same, longest, victim = 0, 0.0, None
 
     def timed(call, *arguments):
         nonlocal longest
         began = time.monotonic()
-        answer = call(*arguments)
+        result = call(*arguments)
         longest = max(longest, time.monotonic() - began)
-        return answer
+        return result
 
     for turn in range(TURNS):
         if turn == 21:
             # A worker that has shards goes away without a word while a batch is under way.
-            victim = int(by_arrays._cluster.places[1].worker.split(":")[1].split(".")[-1]) - 10
+            victim = int(by_arrays._cluster.locations[1].worker.split(":")[1].split(".")[-1]) - 10
             threading.Timer(0.03, run, ("ip", "-n", hub, "link", "set", f"to{victim}", "down")).start()
         if turn == 40:
             # And comes back.
@@ -170,7 +168,7 @@ def batches(client, by_arrays, by_lines, hub: str, program: str, lines: int, key
         given = draw.integers(0, 1 << 62, size).astype(numpy.uint64)
         if turn % 3 == 2:
             given[: size // 2] = draw.choice(model.keys, size // 2)
-            assert numpy.array_equal(timed(by_arrays.delete_many, given), model.remove(given)), f"a removal, turn {turn}"
+            assert numpy.array_equal(timed(by_arrays.del_many, given), model.remove(given)), f"a removal, turn {turn}"
         else:
             for start in range(0, size, size // 5):
                 timed(by_arrays.put_many, given[start : start + size // 5], given[start : start + size // 5] // 3)
@@ -182,16 +180,16 @@ def batches(client, by_arrays, by_lines, hub: str, program: str, lines: int, key
         assert numpy.array_equal(values[there], model.values[at[there]]), f"values, turn {turn}"
         assert numpy.array_equal(timed(by_arrays.rank_many, found), at), f"ranks, turn {turn}"
         index = draw.integers(0, len(model.keys), size)
-        for came, right in zip(by_arrays.at_many(index), (model.keys[index], model.values[index], index >= 0)):
+        for came, right in zip(timed(by_arrays.at_many, index), (model.keys[index], model.values[index], index >= 0)):
             assert numpy.array_equal(came, right), f"pairs at indexes, turn {turn}"
         if turn % 5 == 0 or 20 < turn < 25:
-            for came, right in zip(by_arrays.range_arrays(), (model.keys, model.values)):
+            for came, right in zip(timed(by_arrays.range_arrays), (model.keys, model.values)):
                 assert numpy.array_equal(came, right), f"all pairs, turn {turn}"
         piece = asked[turn * lines // TURNS : (turn + 1) * lines // TURNS]
-        answers += timed(by_lines.answer, piece)
-        assert answers == wanted[: len(answers)], f"lines, turn {turn}"
+        replies += timed(by_lines.answer, piece)
+        assert replies == wanted[: len(replies)], f"lines, turn {turn}"
         same += 5
-    assert len(answers) == lines and longest > 5, f"no call waited for the worker that was cut off, but {longest:.1f} s at most"
+    assert len(replies) == lines and longest > 5, f"no call waited for the worker that was cut off, but {longest:.1f} s at most"
     return same, longest
 
 

@@ -12,8 +12,8 @@ void *__libc_memalign(size_t, size_t);
 
 static long wanted, seen, failed;
 
-/* From now on the nth allocation fails, counted from 1, or with -n that one and all behind it; with 0
-   none. Returns how many have failed since the last call. */
+/* From now on the nth allocation fails, counted from 1. With -n all allocations after it fail too, and
+   with 0 all succeed. Returns how many have failed since the last call. */
 long shards_refuse(long nth) {
     long before = failed;
     wanted = nth;

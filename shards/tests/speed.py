@@ -76,7 +76,7 @@ def calls(client, shards: Shards, keys: numpy.ndarray, sync: bool, batches: tupl
         run("put_many" if sync else "put_many-no-sync", lambda piece: shards.put_many(piece, piece))
         if sync and batch >= 10_000:
             # (what it removes is put back, and that is counted too)
-            run("delete_many-and-put_many", lambda piece: (shards.delete_many(piece), shards.put_many(piece, piece)))
+            run("del_many-and-put_many", lambda piece: (shards.del_many(piece), shards.put_many(piece, piece)))
 
 
 def lines(client, shards: Shards, keys: numpy.ndarray, batch: int, number: int) -> None:
@@ -165,7 +165,7 @@ def one_process(program: str, keys: numpy.ndarray) -> None:
 
 
 def one_shard(keys: numpy.ndarray) -> None:
-    """A shard of all pairs, put in no order: its memory, its files, and how long it takes to be opened again."""
+    """A shard of all pairs, put in random order: its memory, its files, and how long it takes to be opened again."""
     with tempfile.TemporaryDirectory(prefix="sweep-bptree-speed-") as folder:
         before = size()
         shard = Shard(folder, sync=False)

@@ -1,6 +1,8 @@
 """The trials of the shards: prints 'N passed, M failed', with ', K skipped' if K is not 0, and what failed. tools/shards runs them.
 
-    trials.py PROGRAM [LINES [KEYS]]    PROGRAM answers lines in one process; the long runs take LINES (1,000,000) and KEYS (1,000,000)
+    trials.py PROGRAM [LINES [KEYS]]    PROGRAM is the program bptree; the long runs take LINES (1,000,000) and KEYS (1,000,000)
+
+test_trials.py has the same trials for pytest.
 """
 
 from __future__ import annotations
@@ -44,12 +46,13 @@ from sweep_bptree_shards.host import Host, raised
 from sweep_bptree_shards.lines import request
 from sweep_bptree_shards.log import Log, Store
 
-PROGRAM = sys.argv[1] if len(sys.argv) > 1 else ""
-NUMBERS = [int(it) for it in sys.argv[2:] if it.isdigit()]
+GIVEN = sys.argv[1:] if __name__ == "__main__" else []
+PROGRAM = GIVEN[0] if GIVEN else os.environ.get("SWEEP_BPTREE_PROGRAM", "")
+NUMBERS = [int(it) for it in GIVEN[1:] if it.isdigit()]
 LINES = NUMBERS[0] if NUMBERS else 1_000_000
 KEYS = NUMBERS[1] if len(NUMBERS) > 1 else 1_000_000
 GREATEST = drawn.GREATEST
-# Cases of the proved functions of shards, which tools/random-calls compares with what these answer.
+# Cases of the proved functions of shards. tools/random-calls compares the proved functions with the same cases.
 CASES = os.path.join(os.path.dirname(os.path.abspath(__file__)), "..", "..", "trials", "routes")
 passed = failed = skipped = 0
 
@@ -99,17 +102,17 @@ def trial(*functions) -> None:
 
 
 def by_program(lines: list[bytes]) -> list[bytes]:
-    """What the program answers in one process."""
+    """The replies of the program, in one process."""
     return model.by_program(PROGRAM, lines)
 
 
-def same_answers(name: str, lines: list[bytes], wanted: list[bytes], came: list[bytes]) -> None:
-    """Compares the bytes of all answers, and tells of the first that differs."""
+def same_replies(name: str, lines: list[bytes], wanted: list[bytes], came: list[bytes]) -> None:
+    """Compares the bytes of all replies, and reports the first that differs."""
     is_same = b"\n".join(wanted) == b"\n".join(came)
     at = next((at for at, it in enumerate(zip(wanted, came)) if it[0] != it[1]), min(len(wanted), len(came)))
-    told = None if is_same or at >= min(len(wanted), len(came)) else (at, lines[at], wanted[at][:80], came[at][:80])
-    same(f"{name}, the number of answers", len(wanted), len(came))
-    same(f"{name}, the first line that is answered otherwise", (True, None), (is_same, told))
+    first = None if is_same or at >= min(len(wanted), len(came)) else (at, lines[at], wanted[at][:80], came[at][:80])
+    same(f"{name}, the number of replies", len(wanted), len(came))
+    same(f"{name}, the first line whose reply differs", (True, None), (is_same, first))
 
 
 def puts(keys, value: int = 7) -> list[bytes]:
@@ -137,29 +140,6 @@ def table_of_routes() -> None:
         ([GREATEST], GREATEST - 1, 0),
     ]:
         same(f"route {bounds} {key}", shard, routing.route(bounds, key))
-    # (lengths, place, shard and place in it)
-    for lengths, place, found in [
-        ([], 0, None),
-        ([0], 0, None),
-        ([3], 2, (0, 2)),
-        ([3], 3, None),
-        ([2, 0, 3], 1, (0, 1)),
-        ([2, 0, 3], 2, (2, 0)),
-        ([0, 0, 1], 0, (2, 0)),
-        ([2, 0, 3], 4, (2, 2)),
-        ([2, 0, 3], 5, None),
-    ]:
-        same(f"locate {lengths} {place}", found, routing.locate(lengths, place))
-    # (lengths, place, count, parts)
-    for lengths, place, count, found in [
-        ([3, 3], 0, 0, []),
-        ([3, 3], 2, 2, [(0, 2, 1), (1, 0, 1)]),
-        ([3, 0, 3], 0, 9, [(0, 0, 3), (2, 0, 3)]),
-        ([3, 0, 3], 3, 1, [(2, 0, 1)]),
-        ([3, 3], 6, 5, []),
-        ([0, 0], 0, 5, []),
-    ]:
-        same(f"parts {lengths} {place} {count}", found, [tuple(part) for part in routing.parts(lengths, place, count)])
     for bounds, start, end, found in [
         ([10, 20], 0, 10, [0]),
         ([10, 20], 0, 11, [0, 1]),
@@ -173,6 +153,32 @@ def table_of_routes() -> None:
     for bounds, key, shard in [([10, 20], 10, 0), ([10, 20], 11, 1), ([10, 20], 20, 1), ([10, 20], 0, 0), ([], GREATEST, 0)]:
         same(f"route_below {bounds} {key}", shard, routing.route_below(bounds, key))
     same("route_range without ends", (0, 2), routing.route_range([10, 20], None, None))
+
+
+def table_of_indexes() -> None:
+    # (lengths, index in the whole, shard and index in it)
+    for lengths, index, found in [
+        ([], 0, None),
+        ([0], 0, None),
+        ([3], 2, (0, 2)),
+        ([3], 3, None),
+        ([2, 0, 3], 1, (0, 1)),
+        ([2, 0, 3], 2, (2, 0)),
+        ([0, 0, 1], 0, (2, 0)),
+        ([2, 0, 3], 4, (2, 2)),
+        ([2, 0, 3], 5, None),
+    ]:
+        same(f"locate {lengths} {index}", found, routing.locate(lengths, index))
+    # (lengths, index in the whole, count, parts)
+    for lengths, index, count, found in [
+        ([3, 3], 0, 0, []),
+        ([3, 3], 2, 2, [(0, 2, 1), (1, 0, 1)]),
+        ([3, 0, 3], 0, 9, [(0, 0, 3), (2, 0, 3)]),
+        ([3, 0, 3], 3, 1, [(2, 0, 1)]),
+        ([3, 3], 6, 5, []),
+        ([0, 0], 0, 5, []),
+    ]:
+        same(f"parts {lengths} {index} {count}", found, [tuple(part) for part in routing.parts(lengths, index, count)])
     for least, most, found in [
         ([1, 1], [1, 1], [0]),
         ([0, 1], [0, 1], [1]),
@@ -195,12 +201,12 @@ def routes_beside_a_list() -> None:
         edges = [0, *bounds, 1000]
         shards = [[key for key in keys if low <= key < high] for low, high in zip(edges, edges[1:])]
         lengths = [len(it) for it in shards]
-        key, place, count, end = draw.randrange(41), draw.randrange(25), draw.randrange(9), draw.randrange(41)
+        key, index, count, end = draw.randrange(41), draw.randrange(25), draw.randrange(9), draw.randrange(41)
         shard = routing.route(bounds, key)
-        found = routing.locate(lengths, place)
+        found = routing.locate(lengths, index)
         own = [it for it in shards[shard] if it > key] or [it for it in shards[shard + 1 :] if it][:1]
         after, before = routing.next_full(lengths, shard), routing.prev_full(lengths, shard)
-        page = [shards[part.shard][part.start + at] for part in routing.parts(lengths, place, count) for at in range(part.count)]
+        page = [shards[part.shard][part.start + at] for part in routing.parts(lengths, index, count) for at in range(part.count)]
         low, high = routing.route_range(bounds, key, end)
         within = [it for it in itertools.chain(*shards[low : high + 1]) if key <= it < end]
         lower = routing.route_below(bounds, key)
@@ -208,7 +214,7 @@ def routes_beside_a_list() -> None:
         wrong += (
             not edges[shard] <= key < edges[shard + 1]
             or routing.rank_of_whole(lengths, shard, bisect_left(shards[shard], key)) != bisect_left(keys, key)
-            or (None if found is None else shards[found[0]][found[1]]) != (keys[place] if place < len(keys) else None)
+            or (None if found is None else shards[found[0]][found[1]]) != (keys[index] if index < len(keys) else None)
             or bool(own) != (bisect_right(keys, key) < len(keys))
             or bool(smaller) != (bisect_left(keys, key) > 0)
             or (lower > 0 and edges[lower] >= key)
@@ -216,19 +222,19 @@ def routes_beside_a_list() -> None:
             and key < end
             or (None if after is None else shards[after][0]) != next((it for it in keys if it >= edges[shard + 1]), None)
             or (None if before is None else shards[before][-1]) != next((it for it in reversed(keys) if it < edges[shard]), None)
-            or page != keys[place : place + count]
+            or page != keys[index : index + count]
             or within != [it for it in keys if key <= it < end]
             or routing.len_of_whole(lengths) != len(keys)
         )
-    same("drawn shards whose answers are not those of the whole list", 0, wrong)
+    same("drawn shards with other results than the whole list", 0, wrong)
 
 
 def routes_beside_the_proved() -> None:
-    """The same cases as a program of the gate prints, which calls the proved functions and is compared with this file there.
+    """The cases of a file. A program of the gate calls the proved functions with them, and its output is compared with that file.
 
-    A line is 'NAME ARGUMENT .. = RESULT'. An argument is a number, 'none', or a list of numbers with commas between, '-' where it
-    is empty; the first one is a list always. A result is a number, 'none', or numbers with commas between; parts are apart by
-    spaces, and '-' is no part.
+    A line is 'NAME ARGUMENT .. = RESULT'. An argument is a number, ``none``, or a list of numbers separated by commas, and ``-`` is
+    the empty list. The first argument is always a list. A result is a number, ``none``, or numbers separated by commas. Parts are
+    separated by spaces, and ``-`` means no parts.
     """
 
     def read(word: str) -> int | None:
@@ -382,14 +388,14 @@ class Alone:
             self.lengths.append(opened["length"])
 
     def batch(self, kind: str, number: int, sizes: list[int], *columns: bytes) -> list[bytes]:
-        """The columns of the answer."""
+        """Carries out a batch, and returns the columns of the reply."""
         parts = array("Q", [word for handle, size in zip(self.handles, sizes) for word in (handle, number, size)])
         said = self.host._batch(parts, [memoryview(bytearray(column)) for column in columns], kind, b"x" * 16)
         self.lengths = array("Q", said["parts"])[::2].tolist()
         return [bytes(column.data) for column in said["columns"]]
 
-    def told(self, number: int, text: bytes) -> tuple[int, bytes]:
-        """How many pairs the first shard has after some lines, and their answers."""
+    def execute(self, number: int, text: bytes) -> tuple[int, bytes]:
+        """Carries out lines in the first shard. Returns how many pairs it has then, and the replies."""
         (said,) = self.batch("text", number, [len(text)], text)
         return self.lengths[0], said
 
@@ -418,7 +424,7 @@ def fill(folder: str, is_limited: bool) -> None:
         text = b"".join(b"put %d %d\n" % (key, key) for key in range(kept, kept + 50)) + b"len\n"
         number += 1
         try:
-            length, said = shard.told(number, text)
+            length, said = shard.execute(number, text)
         except NotWrittenError as error:
             assert "cannot be written: " in str(error), error
             break
@@ -433,22 +439,30 @@ def fill(folder: str, is_limited: bool) -> None:
             raise AssertionError("there was room")
         except NotWrittenError as error:
             assert "cannot be written: " in str(error), error
-    assert shard.told(number + 1, b"len\nlast\n") == (kept, b"%d\n%d %d\n" % (kept, kept - 1, kept - 1))
+    assert shard.execute(number + 1, b"len\nlast\n") == (kept, b"%d\n%d %d\n" % (kept, kept - 1, kept - 1))
     if is_limited:
         resource.setrlimit(resource.RLIMIT_FSIZE, (resource.RLIM_INFINITY, resource.RLIM_INFINITY))
-        assert shard.told(number + 2, b"put 7 1\nlen\n") == (kept, b"old 7\n%d\n" % kept)
+        assert shard.execute(number + 2, b"put 7 1\nlen\n") == (kept, b"old 7\n%d\n" % kept)
     shard.close()
     again = Alone(folder)
-    assert again.told(number + 3, b"len\nlast\n") == (kept, b"%d\n%d %d\n" % (kept, kept - 1, kept - 1))
+    assert again.execute(number + 3, b"len\nlast\n") == (kept, b"%d\n%d %d\n" % (kept, kept - 1, kept - 1))
     again.close()
     print("ok")
 
 
 def one_shard(folder: str) -> None:
-    """A shard alone, beside the program: whole, opened again after each batch, and torn."""
+    at = os.path.join(folder, "shard")
+    number = shard_beside_the_program(at)
+    torn_log(at, number)
+    pairs_past_a_bound(at, number)
+    lines_of_a_shard(at, number + 6)
+    raises("no map", ShardError, "needs the package sweep_bptree", without_a_map, at)
+
+
+def shard_beside_the_program(at: str) -> int:
+    """A shard alone, beside the program: opened again after each batch. Returns the number of its last batch."""
     lines = [line for line in drawn.lines(12_000, 11, 500, 1000) if request(line)]
     wanted = by_program(lines)
-    at = os.path.join(folder, "shard")
     came, number = [], 0
     # (page is asked of a shard as 'from'; log_limit makes it write snapshots)
     for start in range(0, len(lines), 600):
@@ -457,49 +471,58 @@ def one_shard(folder: str) -> None:
             number += 1
             asked = [as_from(line) for line in lines[begin : begin + 200]]
             text = b"".join(line + b"\n" for line in asked)
-            length, said = shard.told(number, text)
+            length, said = shard.execute(number, text)
             came += said.split(b"\n")[:-1]
-        same("a batch that is sent again", (length, said), shard.told(number, text))
+        same("a batch that is sent again", (length, said), shard.execute(number, text))
         shard.close()
         shard = Alone(at)
-        same("and after it was opened again", (length, said), shard.told(number, text))
+        same("and after it was opened again", (length, said), shard.execute(number, text))
         shard.close()
-    same_answers("a shard alone", lines, wanted, came)
-    # The last batch is torn: it was not done, and can be done.
+    same_replies("a shard alone", lines, wanted, came)
+    return number
+
+
+def torn_log(at: str, number: int) -> None:
+    """The last batch is torn: it was not done, and can be done."""
     shard = Alone(at)
     before = shard.pairs()
-    raises("an old batch", ShardError, "is older", shard.told, 1, b"put 1 1\n")
-    shard.told(number + 1, b"clear\nput 5 50\n")
+    raises("an old batch", ShardError, "is older", shard.execute, 1, b"put 1 1\n")
+    shard.execute(number + 1, b"clear\nput 5 50\n")
     path = shard.shard()._store.log.path
     shard.close()
     os.truncate(path, os.path.getsize(path) - 1)
     shard = Alone(at)
     same("a log with a torn tail", before, shard.pairs())
-    same("the batch after it", (1, b"cleared\nnew\n"), shard.told(number + 1, b"clear\nput 5 50\n"))
+    same("the batch after it", (1, b"cleared\nnew\n"), shard.execute(number + 1, b"clear\nput 5 50\n"))
     shard.close()
-    # Pairs that are not its own, as a move that was cut off leaves them.
+
+
+def pairs_past_a_bound(at: str, number: int) -> None:
+    """Pairs that are not the shard's own, as a move that was cut off leaves them."""
     shard = Alone(at, high=5)
     same("pairs past its bound", [0], shard.lengths)
     shard.close()
     # A cut that there is no room to write is done all the same, since the table has said it.
     shard = Alone(at)
-    shard.told(number + 2, b"clear\nput 1 10\nput 9 90\n")
+    shard.execute(number + 2, b"clear\nput 1 10\nput 9 90\n")
     store = shard.shard()._store
     earlier, store.snapshot = store.snapshot, no_room
     same("a cut without room", {"length": 1}, shard.host._cut(shard.handles[0], 5))
     raises("to take pairs without room", NotWrittenError, "no room", shard.host._take, shard.handles[0], None, raw([7]), raw([7]))
-    same("then it is as before", (1, b"1 10\n"), shard.told(number + 3, b"all\n"))
-    same("lines after it", (2, b"none\nnew\n1 10\n"), shard.told(number + 4, b"get 9\nput 0 3\nlast\n"))
+    same("then it is as before", (1, b"1 10\n"), shard.execute(number + 3, b"all\n"))
+    same("lines after it", (2, b"none\nnew\n1 10\n"), shard.execute(number + 4, b"get 9\nput 0 3\nlast\n"))
     store.snapshot = earlier
     shard.close()
     shard = Alone(at, high=5)
-    same("opened again after a cut without room", (2, b"0 3,1 10\n"), shard.told(number + 5, b"all\n"))
-    shard.told(number + 6, b"clear\n")
+    same("opened again after a cut without room", (2, b"0 3,1 10\n"), shard.execute(number + 5, b"all\n"))
+    shard.execute(number + 6, b"clear\n")
     shard.close()
-    number += 6
-    # The lines that the program has not.
+
+
+def lines_of_a_shard(at: str, number: int) -> None:
+    """The lines that a shard takes and the program does not."""
     shard = Alone(at)
-    for line, answer in [
+    for line, reply in [
         (b"from 0 9", b"empty"),
         (b"ahead 3 9", b"empty"),
         (b"behind 3 9", b"empty"),
@@ -509,10 +532,44 @@ def one_shard(folder: str) -> None:
         (b"behind 2 1\nbehind 3 9\nbehind 0 2\nget 1", b"1 10\n3 30,1 10\nempty\n10"),
     ]:
         number += 1
-        same(repr(line), answer + b"\n", shard.told(number + 1, line + b"\n")[1])
+        same(repr(line), reply + b"\n", shard.execute(number + 1, line + b"\n")[1])
     shard.close()
-    raises("a shard that is closed", NotOpenError, "does not have the shard", shard.told, number + 2, b"len\n")
-    raises("no map", ShardError, "needs the package sweep_bptree", without_a_map, at)
+    raises("a shard that is closed", NotOpenError, "does not have the shard", shard.execute, number + 2, b"len\n")
+
+
+def redone(folder: str) -> None:
+    """A shard carries out batches of the redo log unless they were done or cancelled, and stores no key of another shard."""
+    at, who = os.path.join(folder, "shard"), b"x" * 16
+    shard = Alone(at, high=50)
+    shard.batch("put", 3, [2], raw([1, 2]), raw([10, 20]))
+    shard.host._cancel(who, [(shard.handles[0], 6)])
+    # (the number of a batch, its kind, its columns, and the pairs after it)
+    for number, kind, columns, wanted in [
+        (3, "put", [raw([1]), raw([99])], [(1, 10), (2, 20)]),
+        (5, "put", [raw([1]), raw([99])], [(1, 10), (2, 20)]),
+        (6, "put", [raw([1]), raw([99])], [(1, 10), (2, 20)]),
+        (7, "text", [b"len\nget 1\n"], [(1, 10), (2, 20)]),
+        (7, "put", [raw([8, 60, 50, 49]), raw([80, 600, 500, 490])], [(1, 10), (2, 20), (8, 80), (49, 490)]),
+        (7, "put", [raw([9]), raw([90])], [(1, 10), (2, 20), (8, 80), (49, 490)]),
+        (8, "text", [b"put 70 7\ndel 1\n"], [(2, 20), (8, 80), (49, 490)]),
+        (9, "del", [raw([8, 3])], [(2, 20), (49, 490)]),
+    ]:
+        came = shard.host._redo([(shard.handles[0], who, number, kind, columns)])
+        same(f"batch {number} of the redo log", wanted, shard.pairs())
+        same(f"batch {number} of the redo log, the length", {"lengths": [(shard.handles[0], len(wanted))]}, came)
+    same("a batch that the redo log had, sent again", [b"\1\0"], shard.batch("del", 9, [2], raw([8, 3])))
+    same("the number of the last batch", {who.hex(): 9}, shard.shard().numbers())
+    synced, earlier = [], os.fdatasync
+    os.fdatasync = synced.append
+    try:
+        shard.host._to_disk(shard.handles)
+    finally:
+        os.fdatasync = earlier
+    same("logs that are brought to the disk", 1, len(synced))
+    shard.close()
+    shard = Alone(at, high=50)
+    same("a shard that did batches of the redo log, opened again", [(2, 20), (49, 490)], shard.pairs())
+    shard.close()
 
 
 def no_room(_) -> None:
@@ -556,16 +613,16 @@ def refuse_each(folder: str) -> None:
     """A batch that raised is not done, now and after every opening: each of its first 40 allocations fails, and each seventh one."""
     refuse = ctypes.CDLL(None).shards_refuse
     refuse.restype, refuse.argtypes = ctypes.c_long, [ctypes.c_long]
-    few = list(range(1, 1600, 2)) + list(range(2001, 3000, 2))
-    text = b"".join(b"put %d 9\n" % key for key in few)
+    many = list(range(1, 1600, 2)) + list(range(2001, 3000, 2))
+    text = b"".join(b"put %d 9\n" % key for key in many)
     cut = text.index(b"put 2001")
-    # (as many as are put in three pieces each)
-    many = list(range(1, 300, 2)) + list(range(2401, 2700, 2))
+    # (fewer than a sixth of the pairs of their shard: the library inserts one after another, and after a failure removes these)
+    few = list(range(1, 300, 2)) + list(range(2401, 2700, 2))
     both = [os.path.join(folder, name) for name in ("low", "high")]
     failures = {}
     for name, size, kind, sizes, columns in [
-        ("put", 1000, "put", [800, 500], [raw(few), raw(few)]),
-        ("put in pieces", 1200, "put", [150, 150], [raw(many), raw(many)]),
+        ("put of many keys", 1000, "put", [800, 500], [raw(many), raw(many)]),
+        ("put of few keys", 1200, "put", [150, 150], [raw(few), raw(few)]),
         ("lines", 1000, "text", [cut, len(text) - cut], [text]),
         ("clear", 1000, "text", [6, 6], [b"clear\n" * 2]),
     ]:
@@ -614,7 +671,7 @@ def refuse_each(folder: str) -> None:
 
 
 def full_each(folder: str) -> None:
-    """Two shards whose log has room for ever more bytes of a batch: it is done in both, or in none."""
+    """Two shards whose log has room for ever more bytes of a batch: both carry it out, or neither does."""
     both = [os.path.join(folder, name) for name in ("low", "high")]
     keys = list(range(100))
     wrong, failed = [], 0
@@ -680,60 +737,141 @@ class Killer:
         timer.start()
 
 
+class Faults:
+    """Fills the disks of the workers, or makes allocations of the library in them fail. Counts the errors that this leads to."""
+
+    def __init__(self, client, folder: str):
+        self.client, self.folder = client, folder
+        self.may_refuse = "refuse.so" in os.environ.get("LD_PRELOAD", "")
+        self.raised: dict[str, int] = {}
+        self._draw = random.Random(6)
+
+    def begin(self, number: int) -> None:
+        """Of each ten pieces of the run one meets a full disk, and one meets allocations that fail."""
+        if number % 10 == 4:
+            # (the longest log, and some others, have no room for another record, or for a part of it)
+            in_workers(self.client, limit_files, max(int(largest_file(self.folder) * self._draw.random()), 4096))
+        elif number % 10 == 9 and self.may_refuse:
+            # (a short piece makes few allocations)
+            nth = self._draw.choice((1, 1, 2, 4, 9))
+            # (one allocation fails, or all from one on)
+            in_workers(self.client, refuse_in_worker, nth if number % 20 == 9 else -nth)
+
+    def end(self, number: int) -> None:
+        if number % 10 == 4:
+            in_workers(self.client, limit_files, resource.RLIM_INFINITY)
+        elif number % 10 == 9 and self.may_refuse:
+            in_workers(self.client, refuse_in_worker, 0)
+
+    def count(self, error: Exception) -> None:
+        if not isinstance(error, (NotWrittenError, OutOfMemoryError)):
+            raise error
+        name = type(error).__name__
+        self.raised[name] = self.raised.get(name, 0) + 1
+
+    def see(self) -> None:
+        same("batches of lines that failed on a full disk, some", True, self.raised.get("NotWrittenError", 0) > 0)
+        if self.may_refuse:
+            same("batches of lines in which an allocation failed, some", True, self.raised.get("OutOfMemoryError", 0) > 0)
+        else:
+            skip("allocations that fail in the long run", "there is no C compiler")
+
+
+def largest_file(folder: str) -> int:
+    """The length of the largest file that workers write to."""
+    return max(os.path.getsize(os.path.join(at, name)) for at, _, names in os.walk(folder) for name in names if name != "redo")
+
+
+def through_faults(shards: Shards, faults: Faults, number: int, piece: list[bytes], given: list, came: list) -> None:
+    """Has a piece of the lines carried out, if need be in a second attempt: adds them to ``given``, and their replies to ``came``.
+
+    Either all shards carry out a batch, or no shard does. So if a batch raised an error, a line ``all`` has to find that no line of it was done,
+    while the disk is full, and again when the fault is over. Then the batch is sent again.
+    """
+
+    def ask(lines: list[bytes]) -> None:
+        came.extend(shards.answer(lines))
+        given.extend(lines)
+
+    faults.begin(number)
+    try:
+        ask(piece)
+        piece = []
+    except BatchError as error:
+        faults.count(error.error)
+        done = len(error.replies)
+        given += piece[:done]
+        came += error.replies
+        piece = piece[done:]
+        if isinstance(error.error, NotWrittenError):
+            ask([b"all"])
+    finally:
+        faults.end(number)
+    if piece:
+        ask([b"all"])
+        ask(piece)
+
+
 def long_run(client, folder: str) -> None:
-    """All lines in one run, with three workers killed on the way, and shards that split and merge."""
+    """All lines in one run. Meanwhile workers are killed, disks fill, allocations fail, and shards are split and merged."""
     lines = drawn.lines(LINES, 7)
-    wanted = by_program(lines)
-    killer, came = Killer(client), []
+    killer, faults = Killer(client), Faults(client, folder)
+    given: list[bytes] = []
+    came: list[bytes] = []
     draw = random.Random(5)
-    pieces = 100
-    step = max(1, len(lines) // pieces)
-    with Shards(client, folder, shards=6, least=256, sync=False) as shards:
+    step = max(1, len(lines) // 100)
+    began = time.monotonic()
+    with Shards(client, folder, shards=6, least=256) as shards:
+        # (all lines take some 19 bytes each)
+        shards._cluster.redo_limit = 4 * len(lines)
         for number, start in enumerate(range(0, len(lines), step)):
-            if number in (23, 51, 78):
-                # (some while the batches of this piece are on their way)
+            if number in (24, 51, 79):
+                # (while the batches of this piece are on their way, two of which meet a fault)
                 killer.later(draw.choice(shards.processes()), draw.random() * 0.15)
-            came += shards.answer(lines[start : start + step])
+            through_faults(shards, faults, number, lines[start : start + step], given, came)
         counts = shards.counts
-        print(f"{len(lines)} lines, {counts}", flush=True)
-    same_answers("the long run", lines, wanted, came)
+        same("the redo log was emptied meanwhile", True, 0 < shards._cluster._redo.length < 5 * len(lines))
+        print(f"{len(lines)} lines in {time.monotonic() - began:.1f} s, {counts}, raised {faults.raised}", flush=True)
+    ends = [b"all", b"len"]
+    wanted = by_program([*given, *ends])
+    same_replies("the long run", given, wanted[:-2], came)
+    same("all lines were done", True, [line for line in given if line != b"all"] == [line for line in lines if line != b"all"])
     same("workers that were killed", 3, killer.killed)
     same("shards that were opened again, some", True, counts["opened again"] > 0)
     same("shards were split and merged under load", (True, True), (counts["splits"] > 0, counts["merges"] > 0))
-    with Shards(client, folder, shards=1, sync=False) as shards:
-        same_answers(
-            "what stays in the folder", [b"all", b"len"], by_program([*lines, b"all", b"len"])[-2:], shards.answer([b"all", b"len"])
-        )
+    faults.see()
+    with Shards(client, folder, shards=1) as shards:
+        same_replies("what stays in the folder", ends, wanted[-2:], shards.answer(ends))
         shards.answer([b"clear"])
         same("one shard in the end", [0], shards.lengths())
 
 
 def killed_between(client, folder: str) -> None:
-    """A worker is killed after a batch was done and before its answer is used: it is sent again, and answered the same."""
+    """A worker is killed after it did a batch and before its reply is used. The batch is sent again, and the reply is the same."""
     killer = Killer(client)
     with Shards(client, folder, shards=3, least=4, sync=True) as shards:
         shards.answer(puts(range(0, 90, 3)))
         same("shards of thirty pairs", True, len(shards.lengths()) > 1)
-        place = shards._cluster.places[0]
+        location = shards._cluster.locations[0]
 
         def sent(kind: str, count: int, column: bytes) -> list[bytes]:
-            """The answers of the first shard to its next batch, which is sent twice, with a worker that is killed in between."""
+            """Sends the next batch of the first shard twice, and kills a worker after each. Returns both replies."""
             found = []
             for _ in range(2):
-                _, ((said,),) = shards._run(shards._cluster.batch, kind, [(place, count)], [memoryview(column)])
+                _, ((said,),) = shards._run(shards._cluster.batch, kind, [(location, count)], [memoryview(column)])
                 found.append(bytes(said))
-                place.number -= 1
+                location.number -= 1
                 killer.kill(shards.processes()[0])
-            place.number += 1
+            location.number += 1
             return found
 
         lines = b"put 1 10\nput 0 5\ndel 3\nget 1\nlen\n"
         first, again = sent("text", len(lines), lines)
-        same("a batch that was cut off is answered once", first, again)
+        same("a batch that was cut off, both replies", first, again)
         same("the shard was opened again", True, shards.counts["opened again"] > 0)
-        same("its answers", b"new\nold 7\ngone 7\n10\n%d\n" % place.length, again)
+        same("the reply", b"new\nold 7\ngone 7\n10\n%d\n" % location.length, again)
         keys = raw([6, 1, 6, 8])
-        same("a removal that was cut off is answered once", [b"\1\1\0\0"] * 2, sent("del", 4, keys))
+        same("a removal that was cut off, both replies", [b"\1\1\0\0"] * 2, sent("del", 4, keys))
         model = {key: 7 for key in range(0, 90, 3)} | {0: 5}
         del model[3], model[6]
         same("and each was done once", sorted(model.items()), shards.range(0, GREATEST))
@@ -746,7 +884,7 @@ def killed_between(client, folder: str) -> None:
 
 
 def killed_client(client, folder: str) -> None:
-    """A client is killed in the middle of its batches: all that it was answered is there for the next one."""
+    """A client is killed in the middle of its batches. The next client finds every batch that the first one got a reply to."""
     asked = [sys.executable, os.path.abspath(__file__), PROGRAM, "client", client.scheduler.address, folder]
     with subprocess.Popen(asked, stdout=subprocess.PIPE) as other:
         for line in other.stdout:
@@ -757,7 +895,11 @@ def killed_client(client, folder: str) -> None:
     turns = int(rest[-1]) + 1 if rest else 26
     with Shards(client, folder, shards=4, least=16) as shards:
         found = dict(shards.range(0, GREATEST))
-        same("pairs that a killed client was answered for", [], [key for key in range(turns * 50) if found.get(key) != key // 50])
+        same(
+            "missing pairs of batches that a killed client got a reply to",
+            [],
+            [key for key in range(turns * 50) if found.get(key) != key // 50],
+        )
         # (its last batch may have been done by some shards)
         same("pairs of a batch that it did not send", [], [key for key in found if key >= (turns + 1) * 50])
         same("more than one shard", True, len(shards.lengths()) > 1)
@@ -765,7 +907,7 @@ def killed_client(client, folder: str) -> None:
 
 
 def serve_until_killed(address: str, folder: str) -> None:
-    """Puts fifty keys in a batch, and tells the number of each batch that was answered. In a process of its own."""
+    """Puts fifty keys in a batch, and prints the number of each batch that is done. In a process of its own."""
     with Client(address) as client, Shards(client, folder, shards=4, least=16) as shards:
         for turn in range(10_000):
             keys = list(range(turn * 50, turn * 50 + 50))
@@ -788,19 +930,19 @@ def cut_moves(client, folder: str) -> None:
         async def send(self, worker, what, **given):
             if self.at == what:
                 raise Cut(what)
-            answer = await super().send(worker, what, **given)
+            reply = await super().send(worker, what, **given)
             if self.at == f"after {what}":
                 raise Cut(what)
-            return answer
+            return reply
 
-        def write_table(self, places):
+        def write_table(self, locations):
             if self.at == "table":
                 raise Cut("table")
-            super().write_table(places)
+            super().write_table(locations)
 
-        async def drop(self, places):
+        async def drop(self, locations):
             if self.at is None:
-                await super().drop(places)
+                await super().drop(locations)
 
     wanted = [(key, 7) for key in range(40)]
     for move in ("split", "merge"):
@@ -826,7 +968,7 @@ def cut_moves(client, folder: str) -> None:
                     [(True, 0), (True, 20), (True, 39)],
                     [shards.rank(k) for k in (0, 20, 39)],
                 )
-                kept = {"lock", "table", *(place.name for place in shards._cluster.places)}
+                kept = {"lock", "redo", "table", *(location.name for location in shards._cluster.locations)}
                 same(f"a {move} that is cut off at {at}, its files", kept, set(os.listdir(here)))
 
 
@@ -839,7 +981,7 @@ def calls(client, folder: str) -> None:
         for turn in range(1500):
             keys = sorted(model)
             key, other, value = draw.randrange(300), draw.randrange(300), draw.randrange(99)
-            place, size = draw.randrange(150), 1 + draw.randrange(30)
+            index, size = draw.randrange(150), 1 + draw.randrange(30)
             at, above = bisect_left(keys, key), bisect_right(keys, key)
 
             def pair(number: int):
@@ -850,7 +992,7 @@ def calls(client, folder: str) -> None:
                     ("get", lambda: shards.get(key), model.get(key)),
                     ("contains", lambda: shards.contains(key), key in model),
                     ("rank", lambda: shards.rank(key), (key in model, at)),
-                    ("at", lambda: shards.at(place), pair(place)),
+                    ("at", lambda: shards.at(index), pair(index)),
                     ("first", shards.first, pair(0)),
                     ("last", shards.last, pair(len(keys) - 1)),
                     ("next", lambda: shards.next(key), pair(above)),
@@ -864,7 +1006,7 @@ def calls(client, folder: str) -> None:
                         lambda: shards.back_from(key, size * 3),
                         [(it, model[it]) for it in keys[:above][::-1][: size * 3]],
                     ),
-                    ("page", lambda: shards.page(place // 10, size), [(it, model[it]) for it in keys[place // 10 * size :][:size]]),
+                    ("page", lambda: shards.page(index // 10, size), [(it, model[it]) for it in keys[index // 10 * size :][:size]]),
                 ]
             )
             before = shards.counts["messages"]
@@ -881,12 +1023,12 @@ def calls(client, folder: str) -> None:
                 continue
             if came != wanted:
                 wrong.append((turn, "put or delete", key, wanted, came))
-        same("calls that answer otherwise than a dict", [], wrong)
+        same("calls with other results than a dict", [], wrong)
         same("more than two shards", True, len(shards.lengths()) > 2)
         at_most = {"get": 1, "contains": 1, "rank": 1, "at": 1, "first": 1, "last": 1, "next": 2, "prev": 2, "len": 0}
         same("how many shards a call asks at most", at_most, {name: most[name] for name in at_most})
         raises("a folder that cannot be made", NotWrittenError, "cannot be made", Shards, client, "/dev/null/folder")
-        shards._cluster.forget(shards._cluster.places[0])
+        shards._cluster.forget(shards._cluster.locations[0])
         same("a shard that is opened again", len(model), len(shards.range(0, GREATEST)))
         raises("a key that is too great", OverflowError, "is not from 0", shards.put, GREATEST + 1, 0)
         raises("a folder that is in use", ShardError, "is in use by another client", Shards, client, folder)
@@ -914,25 +1056,25 @@ def emptied_shards(client, folder: str) -> None:
         for shard in (0, 0, 2, 1):
             shards.split(shard)
         for batch in lines:
-            same_answers(f"a batch by hand, {batch[0]} ..", batch, [next(wanted) for _ in batch], shards.answer(batch))
+            same_replies(f"a batch by hand, {batch[0]} ..", batch, [next(wanted) for _ in batch], shards.answer(batch))
 
 
 def small_shards(client, folder: str) -> None:
     """Five shards of a few pairs, which are emptied and filled again within drawn batches."""
-    for batch, has_places in itertools.product((12, 60), (True, False)):
+    for batch, has_indexes in itertools.product((12, 60), (True, False)):
         lines = drawn.lines(2000, 31 + batch, 16, 50)
-        # (a batch with places knows the lengths at each line, and one without only their bounds)
-        lines = [it for it in lines if has_places or not it.startswith((b"at", b"page"))]
+        # (the client knows the exact lengths at each line of a batch with indexes, and else only bounds on them)
+        lines = [it for it in lines if has_indexes or not it.startswith((b"at", b"page"))]
         lines[70::83] = [b"clear"] * len(lines[70::83])
         wanted = by_program([*puts(range(16)), *lines])[16:]
-        with Shards(client, os.path.join(folder, f"{batch}-{has_places}"), sync=False, batch=batch) as shards:
+        with Shards(client, os.path.join(folder, f"{batch}-{has_indexes}"), sync=False, batch=batch) as shards:
             # (the bounds stay)
             shards._held_up = float("inf")
             shards.answer(puts(range(16)))
             for shard in (0, 0, 2, 1):
                 shards.split(shard)
             same("five shards", [4, 6, 8, 12], shards.bounds())
-            same_answers(f"small shards, batches of {batch}, places {has_places}", lines, wanted, shards.answer(lines))
+            same_replies(f"small shards, batches of {batch}, with indexes: {has_indexes}", lines, wanted, shards.answer(lines))
 
 
 def in_workers(client, function, *arguments) -> None:
@@ -941,7 +1083,7 @@ def in_workers(client, function, *arguments) -> None:
 
     async def call_each() -> None:
         cluster = Cluster(client, "", False, 1)
-        calls = (cluster._answer(worker, client.rpc(worker).run(**given)) for worker in await cluster.workers())
+        calls = (cluster._reply_of(worker, client.rpc(worker).run(**given)) for worker in await cluster.workers())
         await asyncio.gather(*calls, return_exceptions=True)
 
     client.sync(call_each)
@@ -952,43 +1094,40 @@ def limit_files(size: int) -> None:
 
 
 def full_disk(client, folder: str) -> None:
-    """The logs of the workers take no more: a clear error, and all that was answered stays."""
+    """The logs of the workers have no room: the error is clear, and all batches that were done stay."""
     with Shards(client, folder, shards=3, least=64) as shards:
         lines = puts(range(0, 3000, 5))
         shards.answer(lines)
         model = {key: 7 for key in range(0, 3000, 5)}
-        sizes = [os.path.getsize(os.path.join(at, name)) for at, _, names in os.walk(folder) for name in names]
-        in_workers(client, limit_files, max(sizes) + 5000)
+        in_workers(client, limit_files, largest_file(folder) + 5000)
         failed = None
         try:
             for turn in range(2000):
                 batch = puts(range(turn * 7 % 3000, turn * 7 % 3000 + 40), turn)
                 try:
-                    answers = shards.answer(batch)
+                    replies = shards.answer(batch)
                 except BatchError as error:
                     failed = error
                     break
-                for line, answer in zip(batch, answers):
+                for line, reply in zip(batch, replies):
                     _, key, value = map(int, line.replace(b"put", b"0").split())
-                    if answer != (b"old %d" % model[key] if key in model else b"new"):
-                        same("an answer while the disk fills", model.get(key), answer)
+                    if reply != (b"old %d" % model[key] if key in model else b"new"):
+                        same("a reply while the disk fills", model.get(key), reply)
                     model[key] = value
             same(
                 "a full disk fails",
                 (True, []),
-                (isinstance(failed, BatchError) and isinstance(failed.error, NotWrittenError), failed.answers),
+                (isinstance(failed, BatchError) and isinstance(failed.error, NotWrittenError), failed.replies),
             )
             same("a full disk, what it says", True, "cannot be written: " in str(failed) or str(failed))
-            same(
-                "a full disk: reading goes on, and nothing of the batch was done", sorted(model.items()), shards.range(0, GREATEST)
-            )
+            same("a full disk: reading goes on, and nothing of the batch was done", sorted(model.items()), shards.range(0, GREATEST))
             many = list(range(60_000))
             raises("arrays on a full disk", NotWrittenError, "cannot be written: ", shards.put_many, many, many)
-            raises("a removal on a full disk", NotWrittenError, "cannot be written: ", shards.delete_many, many)
+            raises("a removal on a full disk", NotWrittenError, "cannot be written: ", shards.del_many, many)
             raises("a load on a full disk", NotWrittenError, "cannot be written: ", shards.from_arrays, many, many)
             same("and nothing of these", sorted(model.items()), shards.range(0, GREATEST))
-            # The shards that had done their part are told to cancel it by workers that are killed first.
-            shards._cluster.forget(shards._cluster.places[0])
+            # (a shard that is forgotten is opened again from its files)
+            shards._cluster.forget(shards._cluster.locations[0])
         finally:
             in_workers(client, limit_files, resource.RLIM_INFINITY)
         same("and after there is room again", sorted(model.items()), shards.range(0, GREATEST))
@@ -1010,17 +1149,16 @@ def lost_cancels(client, folder: str) -> None:
             same("three shards on three workers", 3, len(set(shards.processes())))
             processes = shards.processes()
             bounds = shards.bounds()
-            path = os.path.join(folder, str(is_reopened), shards._cluster.places[1].name)
+            path = os.path.join(folder, str(is_reopened), shards._cluster.locations[1].name)
 
             class KillingCluster(Cluster):
                 async def send(self, worker, what, **given):
-                    if what == "cancel" and worker == self.places[0].worker:
+                    if what == "cancel" and worker == self.locations[0].worker:
                         killer.kill(processes[0])
                     return await super().send(worker, what, **given)
 
             shards._cluster.__class__ = KillingCluster
-            size = max(os.path.getsize(os.path.join(path, name)) for name in os.listdir(path))
-            in_workers(client, limit_files, size + 100)
+            in_workers(client, limit_files, largest_file(path) + 100)
             try:
                 # (a few pairs for the first shard, and more than there is room for in the second)
                 many = [*keys[:2], *range(bounds[0], bounds[1]), *range(bounds[0], bounds[1])]
@@ -1034,7 +1172,7 @@ def lost_cancels(client, folder: str) -> None:
                 )
             finally:
                 in_workers(client, limit_files, resource.RLIM_INFINITY)
-            same("what was not undone is in the table", 1, len(shards._cluster.places[0].cancelled))
+            same("what was not undone is in the table", 1, len(shards._cluster.locations[0].cancelled))
             shards._cluster.__class__ = Cluster
             if not is_reopened:
                 same("a batch whose undoing was cut off", [(key, key) for key in keys], shards.range(0, GREATEST))
@@ -1046,7 +1184,7 @@ def lost_cancels(client, folder: str) -> None:
 
 
 def lost_workers(client, folder: str) -> None:
-    """A batch is done in all shards, and no worker can be reached any more before it is answered: it raises, and is undone later."""
+    """All shards do a batch, and no worker can be reached before the reply arrives. The call raises, and the batch is undone later."""
 
     class LosingCluster(Cluster):
         async def send(self, worker, what, **given):
@@ -1062,7 +1200,7 @@ def lost_workers(client, folder: str) -> None:
     keys = list(range(60))
     for name, change in [
         ("put_many", lambda shards: shards.put_many(range_of(80), range_of(80))),
-        ("delete_many", lambda shards: shards.delete_many(keys)),
+        ("del_many", lambda shards: shards.del_many(keys)),
         ("clear", lambda shards: shards.answer([b"clear"])),
     ]:
         here = os.path.join(folder, name)
@@ -1079,6 +1217,102 @@ def lost_workers(client, folder: str) -> None:
                 same(f"{name}, after all was opened again", [(key, key) for key in keys], shards.range(0, GREATEST))
 
 
+def log_sizes(folder: str) -> dict[str, int]:
+    """The logs of the shards in a folder, with their lengths."""
+    found = (os.path.join(at, name) for at, _, names in os.walk(folder) for name in names if name.startswith("log-"))
+    return {path: os.path.getsize(path) for path in found}
+
+
+def lose_power(folder: str, on_disk: dict[str, int], draw: random.Random) -> int:
+    """Cuts the logs off, as a machine can leave them that lost power: anywhere behind what is on the disk. Returns how much is lost."""
+    lost = 0
+    for path, size in log_sizes(folder).items():
+        stays = draw.randint(on_disk.get(path, 0), size)
+        os.truncate(path, stays)
+        lost += size - stays
+    return lost
+
+
+def batches_before_a_loss(client, shards: Shards, turn: int, model: dict[int, int], folder: str) -> None:
+    """Batches of each kind, of which one fails, since one worker has no room for it."""
+    draw = random.Random(turn)
+    for number in range(4):
+        keys = draw.sample(range(2000), 300)
+        shards.put_many(keys, [turn * 10 + number] * len(keys))
+        model.update(dict.fromkeys(keys, turn * 10 + number))
+        gone = draw.sample(range(2000), 100)
+        same("removals before a loss of power", [key in model for key in gone], shards.del_many(gone).tolist())
+        for key in gone:
+            model.pop(key, None)
+        keys = draw.sample(range(2000), 20)
+        shards.answer([b"len", *puts(keys, turn), b"del %d" % keys[0], b"first"])
+        model.update(dict.fromkeys(keys[1:], turn))
+        model.pop(keys[0], None)
+        if number == turn % 4:
+            in_workers(client, limit_files, max(log_sizes(folder).values()) + 100)
+            try:
+                many = list(range(3000))
+                raises("arrays before a loss of power", NotWrittenError, "cannot be written: ", shards.put_many, many, many)
+            finally:
+                in_workers(client, limit_files, resource.RLIM_INFINITY)
+
+
+def lost_power(client, folder: str) -> None:
+    """The machine of the workers loses power, and that of the client too in each second turn. All batches that were done are there."""
+    draw = random.Random(12)
+    model: dict[int, int] = {}
+    lost = 0
+    for turn in range(6):
+        with Shards(client, folder, shards=4, least=64) as shards:
+            same(f"the length after a loss of power, turn {turn}", len(model), len(shards))
+            same(f"a new client after a loss of power, turn {turn}", sorted(model.items()), shards.range(0, GREATEST))
+            same("the redo log of a new client is empty", 0, shards._cluster._redo.length)
+            on_disk = log_sizes(folder)
+            batches_before_a_loss(client, shards, turn, model, folder)
+            same("the redo log has batches", True, shards._cluster._redo.length > 0)
+            if turn % 2:
+                # (the workers close all shards, and the client finds that when it sends the next batch)
+                shards._run(shards._cluster._release, folder)
+                lost += lose_power(folder, on_disk, draw)
+                same(f"the same client after a loss of power, turn {turn}", sorted(model.items()), shards.range(0, GREATEST))
+                shards._run(shards._cluster._shorten)
+                same("the redo log is emptied", 0, shards._cluster._redo.length)
+                on_disk = log_sizes(folder)
+                batches_before_a_loss(client, shards, turn + 10, model, folder)
+        lost += lose_power(folder, on_disk, draw)
+    same("bytes that were lost, some", True, lost > 0)
+    with Shards(client, folder, shards=1) as shards:
+        same("after the last loss of power", sorted(model.items()), shards.range(0, GREATEST))
+        full_redo(shards, model)
+    with Shards(client, folder, shards=1) as shards:
+        same("after the disk of the client was full", sorted(model.items()), shards.range(0, GREATEST))
+
+
+def full_redo(shards: Shards, model: dict[int, int]) -> None:
+    """The redo log of the client has no room: a batch of arrays and one of lines fail, and change nothing."""
+    shards.put(1, 1)
+    model[1] = 1
+    many = list(range(3000))
+    before = resource.getrlimit(resource.RLIMIT_FSIZE)
+    resource.setrlimit(resource.RLIMIT_FSIZE, (shards._cluster._redo.length + 100, before[1]))
+    try:
+        raises("arrays on a full disk of the client", NotWrittenError, "redo cannot be written: ", shards.put_many, many, many)
+        raises("lines on a full disk of the client", BatchError, "redo cannot be written: ", shards.answer, puts(many))
+        same("reading goes on", sorted(model.items()), shards.range(0, GREATEST))
+    finally:
+        resource.setrlimit(resource.RLIMIT_FSIZE, before)
+    # With sync a call waits for the disk once, in the process of the client.
+    synced, earlier = [], os.fdatasync
+    os.fdatasync = synced.append
+    try:
+        same("and a put after it", 1, shards.put(1, 2))
+        shards.get(1)
+    finally:
+        os.fdatasync = earlier
+    model[1] = 2
+    same("how often a put and a get wait for the disk", 1, len(synced))
+
+
 def range_of(end: int) -> array:
     return array("Q", range(end))
 
@@ -1088,105 +1322,125 @@ def refuse_in_worker(nth: int) -> int:
     return ctypes.CDLL(None).shards_refuse(ctypes.c_long(nth))
 
 
-def columns_run(client, folder: str) -> None:
-    """Keys by arrays beside a plain sorted array: workers are killed, disks fill and allocations fail meanwhile."""
-    killer, draw = Killer(client), numpy.random.default_rng(8)
-    whole, done, raised_by, turn = model.Model(), 0, {}, 0
-    batch = max(KEYS // 200, 1000)
-    may_refuse = "refuse.so" in os.environ.get("LD_PRELOAD", "")
-    began = time.monotonic()
-    wrong: list = []
-    with Shards(client, folder, shards=6, least=256, limit=1 << 40, sync=False) as shards:
-        while done < KEYS:
-            turn += 1
+class ColumnsRun:
+    """Calls for arrays of drawn keys, beside a plain sorted array, while workers are killed, disks fill and allocations fail."""
+
+    def __init__(self, client, folder: str, shards: Shards):
+        self.client, self.folder, self.shards = client, folder, shards
+        self.killer, self.draw, self.whole = Killer(client), numpy.random.default_rng(8), model.Model()
+        self.batch = max(KEYS // 200, 1000)
+        self.may_refuse = "refuse.so" in os.environ.get("LD_PRELOAD", "")
+        self.turn = self.done = 0
+        self.raised: dict[str, int] = {}
+        #: the turns with another result than the sorted array
+        self.wrong: list = []
+        self.calls = {"put": self.put, "del": self.delete, "get": self.get, "rank": self.rank, "at": self.at, "range": self.range}
+
+    def run(self) -> None:
+        while self.done < KEYS and len(self.wrong) <= 5:
+            self.turn += 1
+            turn = self.turn
             limit = 2 * KEYS if turn % 40 < 20 else KEYS // 10
-            keys = draw.integers(0, limit, batch).astype(numpy.uint64)
+            keys = self.draw.integers(0, limit, self.batch).astype(numpy.uint64)
             if turn % 7 == 0:
                 # (all in one shard)
                 keys = keys // numpy.uint64(16)
-            values = draw.integers(0, 1 << 63, batch).astype(numpy.uint64)
-            if turn in (31, 83, 147):
-                killer.later(int(draw.choice(shards.processes())), float(draw.random()) * 0.05)
-            if turn % 11 == 5:
-                sizes = [os.path.getsize(os.path.join(at, name)) for at, _, names in os.walk(folder) for name in names]
-                in_workers(client, limit_files, max(max(sizes) - int(draw.integers(0, max(sizes))), 4096))
+            values = self.draw.integers(0, 1 << 63, self.batch).astype(numpy.uint64)
             kind = ("put", "put", "get", "rank", "at", "del", "range")[turn % 7 if turn % 40 < 30 else 5]
-            if kind == "put" and turn % 11 in (3, 7, 9) and may_refuse:
-                nth = int(draw.integers(1, 12))
-                in_workers(client, refuse_in_worker, nth if turn % 2 else -nth)
+            self.begin_faults(kind)
             try:
-                if kind == "put":
-                    shards.put_many(keys, values)
-                    whole.put(keys, values)
-                elif kind == "del":
-                    if not numpy.array_equal(shards.delete_many(keys), whole.remove(keys)):
-                        wrong.append((turn, kind))
-                elif kind == "get":
-                    came, found = shards.get_many(keys)
-                    at, there = whole.where(keys)
-                    if not numpy.array_equal(found, there) or not numpy.array_equal(came[there], whole.values[at[there]]):
-                        wrong.append((turn, kind))
-                elif kind == "rank":
-                    if not numpy.array_equal(shards.rank_many(keys), whole.where(keys)[0]):
-                        wrong.append((turn, kind))
-                elif kind == "at":
-                    at = draw.integers(0, len(whole.keys) + 10, batch)
-                    came, came_values, found = shards.at_many(at)
-                    inside = at < len(whole.keys)
-                    is_right = numpy.array_equal(found, inside) and numpy.array_equal(came[inside], whole.keys[at[inside]])
-                    if not is_right or not numpy.array_equal(came_values[inside], whole.values[at[inside]]):
-                        wrong.append((turn, kind))
-                else:
-                    low, high = sorted(draw.integers(0, limit, 2).tolist())
-                    came, came_values = shards.range_arrays(low, high)
-                    start, end = numpy.searchsorted(whole.keys, numpy.array([low, high], numpy.uint64))
-                    if not numpy.array_equal(came, whole.keys[start:end]) or not numpy.array_equal(
-                        came_values, whole.values[start:end]
-                    ):
-                        wrong.append((turn, kind))
-                done += batch
+                if not self.calls[kind](keys, values, limit):
+                    self.wrong.append((turn, kind))
+                self.done += self.batch
             except (NotWrittenError, OutOfMemoryError) as error:
-                raised_by[type(error).__name__] = raised_by.get(type(error).__name__, 0) + 1
+                name = type(error).__name__
+                self.raised[name] = self.raised.get(name, 0) + 1
             finally:
-                if turn % 11 in (3, 5, 7, 9):
-                    in_workers(client, limit_files, resource.RLIM_INFINITY)
-                    if may_refuse:
-                        in_workers(client, refuse_in_worker, 0)
-            if turn % 10 == 0 or turn % 11 in (3, 5, 7, 9):
-                came, came_values = shards.range_arrays()
-                if not numpy.array_equal(came, whole.keys) or not numpy.array_equal(came_values, whole.values):
-                    wrong.append((turn, kind, "all pairs"))
-            if len(wrong) > 5:
-                break
-        print(f"{done} keys by arrays in {time.monotonic() - began:.1f} s, {shards.counts}, raised {raised_by}", flush=True)
-        same("calls for arrays that answer otherwise than a sorted array", [], wrong)
-        same("workers that were killed", 3, killer.killed)
-        same(
-            "shards were opened again, split and merged",
-            (True, True, True),
-            tuple(shards.counts[it] > 0 for it in ("opened again", "splits", "merges")),
-        )
-        same("batches that failed on a full disk, some", True, raised_by.get("NotWrittenError", 0) > 0)
-        if may_refuse:
-            same("batches in which an allocation failed, some", True, raised_by.get("OutOfMemoryError", 0) > 0)
+                self.end_faults()
+            if (turn % 10 == 0 or turn % 11 in (3, 5, 7, 9)) and not has_pairs_of(self.shards, self.whole):
+                self.wrong.append((turn, kind, "all pairs"))
+
+    def begin_faults(self, kind: str) -> None:
+        turn, draw = self.turn, self.draw
+        if turn in (31, 83, 147):
+            self.killer.later(int(draw.choice(self.shards.processes())), float(draw.random()) * 0.05)
+        if turn % 11 == 5:
+            longest = largest_file(self.folder)
+            in_workers(self.client, limit_files, max(longest - int(draw.integers(0, longest)), 4096))
+        if kind == "put" and turn % 11 in (3, 7, 9) and self.may_refuse:
+            nth = int(draw.integers(1, 12))
+            in_workers(self.client, refuse_in_worker, nth if turn % 2 else -nth)
+
+    def end_faults(self) -> None:
+        if self.turn % 11 in (3, 5, 7, 9):
+            in_workers(self.client, limit_files, resource.RLIM_INFINITY)
+            if self.may_refuse:
+                in_workers(self.client, refuse_in_worker, 0)
+
+    # Each of these calls returns whether the result is that of the sorted array.
+
+    def put(self, keys, values, limit: int) -> bool:
+        self.shards.put_many(keys, values)
+        self.whole.put(keys, values)
+        return True
+
+    def delete(self, keys, values, limit: int) -> bool:
+        return numpy.array_equal(self.shards.del_many(keys), self.whole.remove(keys))
+
+    def get(self, keys, values, limit: int) -> bool:
+        came, found = self.shards.get_many(keys)
+        at, there = self.whole.where(keys)
+        return numpy.array_equal(found, there) and numpy.array_equal(came[there], self.whole.values[at[there]])
+
+    def rank(self, keys, values, limit: int) -> bool:
+        return numpy.array_equal(self.shards.rank_many(keys), self.whole.where(keys)[0])
+
+    def at(self, keys, values, limit: int) -> bool:
+        at = self.draw.integers(0, len(self.whole.keys) + 10, self.batch)
+        came, came_values, found = self.shards.at_many(at)
+        inside = at < len(self.whole.keys)
+        wanted = inside, self.whole.keys[at[inside]], self.whole.values[at[inside]]
+        return all(map(numpy.array_equal, wanted, (found, came[inside], came_values[inside])))
+
+    def range(self, keys, values, limit: int) -> bool:
+        low, high = sorted(self.draw.integers(0, limit, 2).tolist())
+        start, end = numpy.searchsorted(self.whole.keys, numpy.array([low, high], numpy.uint64))
+        wanted = self.whole.keys[start:end], self.whole.values[start:end]
+        return all(map(numpy.array_equal, wanted, self.shards.range_arrays(low, high)))
+
+
+def has_pairs_of(shards: Shards, whole: model.Model) -> bool:
+    return all(map(numpy.array_equal, (whole.keys, whole.values), shards.range_arrays()))
+
+
+def columns_run(client, folder: str) -> None:
+    """Keys by arrays beside a plain sorted array: workers are killed, disks fill and allocations fail meanwhile."""
+    began = time.monotonic()
+    with Shards(client, folder, shards=6, least=256, limit=1 << 40) as shards:
+        run = ColumnsRun(client, folder, shards)
+        run.run()
+        seconds = time.monotonic() - began
+        print(f"{run.done} keys by arrays in {seconds:.1f} s, {shards.counts}, raised {run.raised}", flush=True)
+        same("calls for arrays with other results than a sorted array", [], run.wrong)
+        same("workers that were killed", 3, run.killer.killed)
+        for what in ("opened again", "splits", "merges"):
+            same(f"shards, some of them counted as {what}", True, shards.counts[what] > 0)
+        same("batches that failed on a full disk, some", True, run.raised.get("NotWrittenError", 0) > 0)
+        if run.may_refuse:
+            same("batches in which an allocation failed, some", True, run.raised.get("OutOfMemoryError", 0) > 0)
         else:
             skip("allocations that fail in workers", "there is no C compiler")
-    with Shards(client, folder, shards=6, sync=False) as shards:
-        came, came_values = shards.range_arrays()
-        same(
-            "all pairs after all was opened again",
-            True,
-            numpy.array_equal(came, whole.keys) and numpy.array_equal(came_values, whole.values),
-        )
+    with Shards(client, folder, shards=6) as shards:
+        same("all pairs after all was opened again", True, has_pairs_of(shards, run.whole))
 
 
 def arrays(client, folder: str) -> None:
     """The calls for arrays: what they take, and what they return at the edges."""
     with Shards(client, folder, shards=3, least=4) as shards:
         same("an empty list", [0, 0, 0], [len(it) for it in shards.at_many([])])
-        same("keys of none", ([0], [False]), tuple(it.tolist() for it in shards.get_many([7])))
-        same("ranks in none", [0], shards.rank_many([GREATEST]).tolist())
-        same("a range of none", ([], []), tuple(it.tolist() for it in shards.range_arrays()))
+        same("a key in an empty map", ([0], [False]), tuple(it.tolist() for it in shards.get_many([7])))
+        same("a rank in an empty map", [0], shards.rank_many([GREATEST]).tolist())
+        same("a range of an empty map", ([], []), tuple(it.tolist() for it in shards.range_arrays()))
         shards.put_many([], [])
         shards.from_arrays([], [])
         ends = [0, 1, GREATEST - 1, GREATEST]
@@ -1202,7 +1456,8 @@ def arrays(client, folder: str) -> None:
         same("ranks at the ends", [0, 4, 2], shards.rank_many([0, GREATEST, 2]).tolist())
         came = shards.at_many([4, 5, 0, GREATEST])
         same("indexes", ([GREATEST, 0, 0, 0], [GREATEST, 0, 1, 0], [True, False, True, False]), tuple(it.tolist() for it in came))
-        same("keys that are removed twice", [True, False, False], shards.delete_many([5, 5, 6]).tolist())
+        same("keys that are removed twice", [True, False, False], shards.del_many([5, 5, 6]).tolist())
+        same("the earlier name of del_many", [False], shards.delete_many([5]).tolist())
         same(
             "arrays of 32 bits, and not in one piece",
             [True, True],
@@ -1229,7 +1484,7 @@ def arrays(client, folder: str) -> None:
             )
             if len(last) == 3000:
                 same(f"shards of {name} keys", [1000] * 3, shards.lengths())
-        kept = {"lock", "table", *(place.name for place in shards._cluster.places)}
+        kept = {"lock", "redo", "table", *(location.name for location in shards._cluster.locations)}
         same("folders after loads", kept, set(os.listdir(folder)))
         data_frames(client, shards, folder)
         shards.answer([b"clear"])
@@ -1302,7 +1557,7 @@ def module(folder: str) -> None:
     wanted = subprocess.run([PROGRAM], input=text, stdout=subprocess.PIPE, check=True).stdout
     done = run(text, "--shards", "4", "--workers", "2")
     same("the module, its status", (0, b""), (done.returncode, done.stderr))
-    same("the module, its answers", True, done.stdout == wanted)
+    same("the module, its replies", True, done.stdout == wanted)
     at = os.path.join(folder, "kept")
     done = run(b"put 1 10\nput 2 20\n", "--folder", at, "--workers", "1")
     same("a folder, the first run", (0, b"new\nnew\n", b""), (done.returncode, done.stdout, done.stderr))
@@ -1314,6 +1569,24 @@ def module(folder: str) -> None:
     os.truncate(os.path.join(at, "table"), 9)
     done = run(b"all\n", "--folder", at, "--workers", "1")
     same("a table that is cut off", (1, b"", True), (done.returncode, done.stdout, b"is not as it was written" in done.stderr))
+
+
+# The trials by what they need: nothing; a folder; a folder, the program and the library; and also a client of workers.
+ROUTES = (table_of_routes, table_of_indexes, routes_beside_a_list, routes_beside_the_proved)
+FILES = (logs, stores)
+ALONE = (full_disks, full_each, one_shard, redone, refused, module, network)
+ON_WORKERS = (
+    *(calls, arrays, emptied_shards, small_shards, killed_between, killed_client, cut_moves),
+    *(full_disk, lost_cancels, lost_workers, lost_power),
+)
+# Each of these has workers of its own.
+LONG = (columns_run, long_run)
+WORKERS = 3
+
+
+def all_there(client) -> None:
+    """Waits until those workers that were killed are there again, for a minute at most."""
+    client.wait_for_workers(WORKERS, timeout=60)
 
 
 def main() -> int:
@@ -1337,22 +1610,22 @@ def main() -> int:
                 os.makedirs(folder)
                 try:
                     function(*before, folder)
+                    for client in before:
+                        all_there(client)
                 finally:
                     shutil.rmtree(folder, ignore_errors=True)
 
             run.__name__ = function.__name__
             return run
 
-        trial(table_of_routes, routes_beside_a_list, routes_beside_the_proved)
-        trial(of(logs), of(stores), of(full_disks), of(full_each), of(one_shard), of(refused), of(module), of(network))
+        trial(*ROUTES)
+        trial(*(of(it) for it in (*FILES, *ALONE)))
         library = build_refuse(top)
         if library:
             os.environ["LD_PRELOAD"] = library
-        with local_client(workers=3) as client:
-            trial(
-                *(of(it, client) for it in (calls, arrays, emptied_shards, small_shards, killed_between, killed_client, cut_moves))
-            )
-            trial(*(of(it, client) for it in (full_disk, lost_cancels, lost_workers, columns_run, long_run)))
+        for group in (ON_WORKERS, *((it,) for it in LONG)):
+            with local_client(workers=WORKERS) as client:
+                trial(*(of(it, client) for it in group))
     print(f"{passed} passed, {failed} failed{f', {skipped} skipped' if skipped else ''}")
     return failed > 0
 

@@ -14,7 +14,7 @@ def code(text):
 
 
 def contract(item):
-    lines = [f"{it.kind}{' ' + it.label if it.label else ''}: {code(it.text)}" for it in item.clauses]
+    lines = [f"`{it.kind}{' ' + it.label if it.label else ''}`: {code(it.text)}" for it in item.clauses]
     return "<br>".join(lines) or "No contract: that it is safe and returns is proved, and no more"
 
 

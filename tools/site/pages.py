@@ -1,6 +1,5 @@
 """Writes the pages of the reference, in MyST, from the sources."""
 
-import ast
 import html
 import os
 import re

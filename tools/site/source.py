@@ -314,70 +314,85 @@ DEFINED = re.compile(
 )
 
 
+STARTS = re.compile(r"(abbrev|unfoldable|opaque|pub|inline|irreducible|record|data)\b")
+
+
 def read_spec(path, module):
     """The comment of a file of specs, its definitions, and the names that it brings: name -> (module, name)."""
-    head, definitions, names, passed = [], [], {}, set()
-    doc, text, current = [], [], None
-    scopes = []
-    begun = False
-    lines = text_of(path).split("\n")
-    for number, line in enumerate(lines, 1):
+    reader = SpecReader(module)
+    for number, line in enumerate(text_of(path).split("\n"), 1):
+        reader.read(number, line)
+    if not reader.begun:
+        reader.head = reader.doc
+    return "\n".join(reader.head), reader.definitions, reader.names, reader.passed
+
+
+class SpecReader:
+    """What was read of a file of specs, which it takes line by line."""
+
+    def __init__(self, module):
+        self.module = module
+        self.head, self.definitions, self.names, self.passed = [], [], {}, set()
+        # The comment for the next definition; the definition that a further line belongs to, with its indent; and the modules around
+        # the line that have parameters, with their indents.
+        self.doc, self.current, self.scopes = [], None, []
+        self.begun = False
+
+    def read(self, number, line):
         bare = line.strip()
-        if not bare:
-            if current is not None:
-                current = None
-            if not begun and doc:
-                begun = True
-                head, doc = doc, []
-            continue
-        if bare.startswith("--"):
-            current = None
-            doc.append(bare[2:].removeprefix(" "))
-            continue
         use = USE.match(line)
-        if use:
-            if not begun:
-                head, doc, begun = head or doc, [], True
-            public = bare.startswith("pub ")
-            for target, shown in names_of_spec_use(use):
-                names[shown] = target
-                if public:
-                    passed.add(shown)
-            continue
-        if re.match(r"(?:pub )?mod ", bare):
-            if not begun:
-                head, doc, begun = doc, [], True
-            continue
-        indent = len(line) - len(line.lstrip())
-        scopes = [scope for scope in scopes if scope[0] < indent]
-        scope = re.match(r"module _ (.*) where$", bare)
-        if scope:
-            begun = True
-            scopes.append((indent, scope.group(1)))
-            current = None
-            continue
-        found = DEFINED.match(line)
-        starts = found and re.match(r"(abbrev|unfoldable|opaque|pub|inline|irreducible|record|data)\b", bare)
-        if starts and (current is None or indent <= current[0]):
-            begun = True
-            kind = found.group(2) or "abbrev"
-            made = Definition(found.group(3), "\n".join(doc), line, module, number, kind, not doc, " ".join(it[1] for it in scopes))
-            if not doc and definitions:
-                made.doc = definitions[-1].doc
-            made.shared = not doc
-            doc = []
-            definitions.append(made)
-            current = (indent, made)
-        elif current is not None:
-            current[1].text += "\n" + line
-        elif definitions and re.match(re.escape(definitions[-1].name) + r"\b", bare):
-            definitions[-1].text += "\n" + line
-            current = (indent, definitions[-1])
+        if not bare:
+            self.current = None
+            if self.doc:
+                self.begin()
+        elif bare.startswith("--"):
+            self.current = None
+            self.doc.append(bare[2:].removeprefix(" "))
+        elif use:
+            self.read_use(use, bare.startswith("pub "))
+        elif re.match(r"(?:pub )?mod ", bare):
+            self.begin()
         else:
-            doc = []
-    if not begun:
-        head = doc
-    return "\n".join(head), definitions, names, passed
+            indent = len(line) - len(line.lstrip())
+            self.scopes = [scope for scope in self.scopes if scope[0] < indent]
+            scope = re.match(r"module _ (.*) where$", bare)
+            if scope:
+                self.begun, self.current = True, None
+                self.scopes.append((indent, scope.group(1)))
+            else:
+                self.read_code(number, line, indent)
+
+    def begin(self):
+        """The comment so far is the one of the file."""
+        if not self.begun:
+            self.head, self.doc, self.begun = self.doc, [], True
+
+    def read_use(self, use, public):
+        if not self.begun:
+            self.head, self.doc, self.begun = self.head or self.doc, [], True
+        for target, shown in names_of_spec_use(use):
+            self.names[shown] = target
+            if public:
+                self.passed.add(shown)
+
+    def read_code(self, number, line, indent):
+        found, bare = DEFINED.match(line), line.strip()
+        last = self.definitions[-1] if self.definitions else None
+        if found and STARTS.match(bare) and (self.current is None or indent <= self.current[0]):
+            scope = " ".join(it[1] for it in self.scopes)
+            kind = found.group(2) or "abbrev"
+            made = Definition(found.group(3), "\n".join(self.doc), line, self.module, number, kind, not self.doc, scope)
+            if made.shared and last:
+                made.doc = last.doc
+            self.begun, self.doc, self.current = True, [], (indent, made)
+            self.definitions.append(made)
+        elif self.current is not None:
+            self.current[1].text += "\n" + line
+        elif last and re.match(re.escape(last.name) + r"\b", bare):
+            last.text += "\n" + line
+            self.current = (indent, last)
+        else:
+            self.doc = []
 
 
 def names_of_spec_use(use):

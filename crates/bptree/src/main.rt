@@ -1,8 +1,8 @@
 //! Reads lines from standard input, and writes a reply to each to standard output.
 #![tactic(auto)]
 
-use bptree_script::error::exit_status;
-use bptree_script::session::serve;
+use bptree_commands::error::exit_status;
+use bptree_commands::session::serve;
 use std::process::ExitCode;
 
 fn main(rt: HostRuntime) -> ExitCode {

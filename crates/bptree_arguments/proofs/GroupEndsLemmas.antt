@@ -31,7 +31,7 @@ module _ {G : Type 0} {R : G → G → Ordering} (o : IsTotalOrder R) where
   different_positive y [] = omega arith
   different_positive y (z ∷ zs) = omega (arith, different_positive z zs)
 
-  -- where there is one group, all are equal
+  -- if there is one group, all are equal
   all_alike : (x : G) (xs : List G) → different R (x ∷ xs) ≡ 1 → AllByRecursion (λ y. R x y ≡ Equal) xs
   all_alike x [] h = tt
   all_alike x (y ∷ ys) h = by (list_any (λ z. is_eq (R x z)) (y ∷ ys)) refl (all_alike y ys) h where
@@ -42,7 +42,7 @@ module _ {G : Type 0} {R : G → G → Ordering} (o : IsTotalOrder R) where
         (same, AllByRecursion-weaker (λ z. R y z ≡ Equal) (λ z. R x z ≡ Equal) (λ z f. o.congr x y z same ∙ f) ys rest)
     by false e k t = absurd (omega (arith, t, different_positive y ys))
 
-  -- where all are equal, there is one group
+  -- if all are equal, there is one group
   one_different : (m : G) (xs : List G) → 0 < length xs → AllByRecursion (λ x. R m x ≡ Equal) xs → different R xs ≡ 1
   one_different m [] l h = absurd (omega arith)
   one_different m (x ∷ []) l h = refl
@@ -120,11 +120,11 @@ module _ {G : Type 0} {R : G → G → Ordering} (o : IsTotalOrder R) where
       by (suc zero) e = one e
       by (suc (suc d)) e = more (λ f. absurd (omega (arith, e, f)))
 
-    -- the last group of the first list is the first of the second
+    -- the extremes of both lists, if the last group of the first is the first of the second
     pub joined_shared : (n m : ℕ) → R g1.0 l2.0 ≡ Equal → (d1 ≡ 1 → n ≡ min (l1.1 + l2.1) (2 ^ 64 - 1)) → (d1 ≢ 1 → n ≡ l1.1) → (d2 ≡ 1 → m ≡ min (g2.1 + g1.1) (2 ^ 64 - 1)) → (d2 ≢ 1 → m ≡ g2.1) → AreExtremes R (xs ++ ys) (l1.0, n) (g2.0, m) (min (d1 + d2) (2 ^ 64 - 1) - 1)
     joined_shared n m q u v w z = merged o xs ys l1 g1 l2 g2 d1 d2 a b h n m _ (left_share q n u v) (right_share q m w z) (shared_count o xs ys l1 g1 l2 g2 d1 d2 a b h fits q)
 
-    -- the two lists have no group in common
+    -- the extremes of both lists, if they have no group in common
     pub joined_apart : (R g1.0 l2.0 ≡ Equal → ⊥) → AreExtremes R (xs ++ ys) l1 g2 (min (d1 + d2) (2 ^ 64 - 1))
     joined_apart k =
         let low : R g1.0 l2.0 ≡ Less = below o xs ys l1 g1 l2 g2 d1 d2 a b h fits k in
@@ -132,7 +132,7 @@ module _ {G : Type 0} {R : G → G → Ordering} (o : IsTotalOrder R) where
         let right = greatest_apart o xs ys l1 g1 l2 g2 d1 d2 a b h (less_le o g1.0 l2.0 g2.0 low (ends_ordered o ys l2 g2 d2 b)) in
         merged o xs ys l1 g1 l2 g2 d1 d2 a b h l1.1 g2.1 _ (omega (arith, left)) (omega (arith, right)) (apart_count o xs ys l1 g1 l2 g2 d1 d2 a b h fits low)
 
--- one group after others
+-- a list of groups with one more group after the others
 module _ {G : Type 0} {R : G → G → Ordering} (o : IsTotalOrder R) (groups : List G) (x next : G) (e : R next x ≡ Equal) (h : IsNonDescending R (groups ++ x ∷ [])) (fits : length (groups ++ x ∷ []) < 2 ^ 64) where
   pub next_same : (g : G) (n : ℕ) → AreExtremes R groups (g, n) (g, n) 1 → R g next ≡ Equal → AreExtremes R (groups ++ x ∷ []) (g, min (n + 1) (2 ^ 64 - 1)) (g, min (n + 1) (2 ^ 64 - 1)) 1
   next_same g n a q = one_one_shared o groups (x ∷ []) h fits g next n 1 a (single o x next e) q
@@ -146,11 +146,11 @@ module _ {G : Type 0} {R : G → G → Ordering} (o : IsTotalOrder R) (groups : 
   pub next_above : (l g : G × ℕ) (d : ℕ) → AreExtremes R groups l g d × (R l.0 g.0 ≡ Less) → (R g.0 next ≡ Equal → ⊥) → AreExtremes R (groups ++ x ∷ []) l (next, 1) (min (d + 1) (2 ^ 64 - 1)) × (R l.0 next ≡ Less)
   next_above l g d a q = many_one_apart o groups (x ∷ []) h fits next next 1 l g d a.0 a.1 (single o x next e) (tied_itself o next) q
 
--- what is known of the ends of a list of groups, which may be empty
+-- the ends of a list of groups, or `None` if the list is empty
 abbrev pub AreKnownEnds : {G : Type 0} → (G → G → Ordering) → List G → Option (Ends G) → Type 0
 AreKnownEnds R groups whole = MatchOption whole (groups ≡ []) (λ ends. AreEnds R groups ends)
 
--- the ends of one more piece
+-- the ends after one more piece
 module _ {K G : Type 0} (cmp : K → K → Ordering) (R : G → G → Ordering) (group_of : K → G) (keeps : (x y : K) → is_gt (cmp x y) ≡ false → is_gt (R (group_of x) (group_of y)) ≡ false) (o : IsTotalOrder R) (pieces : List (List K)) (i : ℕ) (l : i < length pieces) (are : ArePieces cmp pieces) where
   abbrev before : List G
   before = map group_of (flatten (take i pieces))
@@ -174,12 +174,12 @@ module _ {K G : Type 0} (cmp : K → K → Ordering) (R : G → G → Ordering) 
   ends_more ends next joined f a b = subst (λ t. AreEnds R t joined) (sym after_is) (f before here a b (piece_order cmp R group_of keeps o pieces i l are) (piece_fits cmp R group_of keeps o pieces i l are))
 
 module _ {K G : Type 0} (cmp : K → K → Ordering) (R : G → G → Ordering) (group_of : K → G) where
-  -- the ends of all pieces are kept
+  -- a summary made from the ends of all pieces is one of the keys of all pieces
   pub ends_kept : {E : Type 0} (r : Result (GroupCount G) E) (arguments : List (GroupCount G)) (ends : Ends G) → IfOk r (λ summary. (groups : List G) → AreEnds R groups ends → IsGroupSummary R summary groups) → ((pieces : List (List K)) → ArePieces cmp pieces → AllZip (λ a keys. IsGroupSummary R a (map group_of keys)) arguments pieces → AreEnds R (map group_of (flatten pieces)) ends) → IfOk r (λ summary. (pieces : List (List K)) → ArePieces cmp pieces → AllZip (λ a keys. IsGroupSummary R a (map group_of keys)) arguments pieces → IsGroupSummary R summary (map group_of (flatten pieces)))
   ends_kept (Ok summary) arguments ends f known = λ pieces are summaries. f _ (known pieces are summaries)
   ends_kept (Err e) arguments ends f known = tt
 
--- the groups of a leaf by those of its first and its last key
+-- the groups of a leaf, if those of its first and its last key are equal
 module _ {G : Type 0} {R : G → G → Ordering} (o : IsTotalOrder R) where
   whole_size : (m : G) (groups : List G) → AllByRecursion (λ x. R m x ≡ Equal) groups → length groups ≡ group_size R m groups
   whole_size m [] h = refl

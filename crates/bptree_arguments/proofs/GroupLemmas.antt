@@ -21,7 +21,7 @@ list_any_none : {X : Type 0} (p : X → Bool) (xs : List X) → AllByRecursion (
 list_any_none p [] h = refl
 list_any_none p (x ∷ xs) h = rw h.0 (list_any_none p xs h.1)
 
--- an order that is not above is below where it is not equal
+-- an order that is neither above nor equal is below
 pub less_by : (r : Ordering) → is_gt r ≡ false → (r ≡ Equal → ⊥) → r ≡ Less
 less_by Less h k = refl
 less_by Equal h k = absurd (k refl)
@@ -36,7 +36,7 @@ module _ {G : Type 0} {R : G → G → Ordering} (o : IsTotalOrder R) where
   not_equal_above : (x g : G) → R g x ≡ Less → is_eq (R x g) ≡ false
   not_equal_above x g e = ap is_eq (o.antisymm x g ∙ ap ordering_reverse e)
 
-  -- the size of a group
+  -- the size of a group in two lists, one after the other, is the sum of its sizes in both
   pub size-append : (g : G) (xs ys : List G) → group_size R g (xs ++ ys) ≡ group_size R g xs + group_size R g ys
   size-append g xs ys = ap length (filter-append (λ x. is_eq (R x g)) xs ys) ∙ length-append (filter (λ x. is_eq (R x g)) xs) _
 
@@ -53,7 +53,7 @@ module _ {G : Type 0} {R : G → G → Ordering} (o : IsTotalOrder R) where
     by true h = omega arith
     by false h = omega arith
 
-  -- where a group has a size, some element is of that group
+  -- if a group has a size, some element is of that group
   pub witness : (P : G → Type 0) (g : G) (xs : List G) → 0 < group_size R g xs → AllByRecursion P xs → (x : G) × P x × (R x g ≡ Equal)
   witness P g [] s h = absurd (omega arith)
   witness P g (x ∷ xs) s h = by (R x g) refl (λ t. witness P g xs t h.1) where
@@ -62,12 +62,12 @@ module _ {G : Type 0} {R : G → G → Ordering} (o : IsTotalOrder R) where
     by Equal e k = (x, h.0, e)
     by Greater e k = k (rw e at s)
 
-  -- every element of the first part is not above any of the second
+  -- no element of the first part is above any of the second
   pub crossing : (xs ys : List G) → IsNonDescending R (xs ++ ys) → AllByRecursion (λ x. AllByRecursion (λ y. is_gt (R x y) ≡ false) ys) xs
   crossing [] ys h = tt
   crossing (x ∷ xs) ys h = (AllByRecursion-right (λ y. is_gt (R x y) ≡ false) xs ys h.0, crossing xs ys h.1)
 
-  -- the number of different groups
+  -- the number of different groups is at most the length
   pub different-le : (xs : List G) → different R xs ≤ length xs
   different-le [] = omega arith
   different-le (x ∷ xs) = by (list_any (λ y. is_eq (R x y)) xs) (different-le xs) where
@@ -137,14 +137,14 @@ module _ {G : Type 0} {R : G → G → Ordering} (o : IsTotalOrder R) where
         let v = witness (λ y. is_gt (R w.0 y) ≡ false) l2.0 ys (omega (arith, b.least_there, b.least_size)) w.1 in
         upto o g1.0 w.0 l2.0 (ap is_gt (tied_back o w.0 g1.0 w.2)) (upto o w.0 v.0 l2.0 v.1 (ap is_gt v.2))
 
-    -- the least of the first part is not above any of either
+    -- the least group of the first part is not above any group of either
     least_all : AllByRecursion (λ x. is_gt (R l1.0 x) ≡ false) (xs ++ ys)
     least_all = AllByRecursion-append (λ x. is_gt (R l1.0 x) ≡ false) xs ys a.least_bound (AllByRecursion-weaker (λ y. is_gt (R l2.0 y) ≡ false) (λ y. is_gt (R l1.0 y) ≡ false) (λ y e. upto o l1.0 l2.0 y (upto o l1.0 g1.0 l2.0 (ends_ordered xs l1 g1 d1 a) boundary) e) ys b.least_bound)
 
     greatest_all : AllByRecursion (λ x. is_gt (R x g2.0) ≡ false) (xs ++ ys)
     greatest_all = AllByRecursion-append (λ x. is_gt (R x g2.0) ≡ false) xs ys (AllByRecursion-weaker (λ x. is_gt (R x g1.0) ≡ false) (λ x. is_gt (R x g2.0) ≡ false) (λ x e. upto o x g1.0 g2.0 e (upto o g1.0 l2.0 g2.0 boundary (ends_ordered ys l2 g2 d2 b))) xs a.greatest_bound) b.greatest_bound
 
-    -- how many keys of the other part are in the least or the greatest group
+    -- the size in the other part of the least or the greatest group
     pub least_shared : R l1.0 l2.0 ≡ Equal → group_size R l1.0 ys ≡ l2.1
     least_shared e = size_alike o l1.0 l2.0 e ys ∙ sym b.least_size
 
@@ -157,7 +157,7 @@ module _ {G : Type 0} {R : G → G → Ordering} (o : IsTotalOrder R) where
     pub greatest_apart : R g1.0 g2.0 ≡ Less → group_size R g2.0 xs ≡ 0
     greatest_apart e = size_below g2.0 xs (AllByRecursion-weaker (λ x. is_gt (R x g1.0) ≡ false) (λ x. R x g2.0 ≡ Less) (λ x f. le_less o x g1.0 g2.0 f e) xs a.greatest_bound)
 
-    -- the number of different groups of both
+    -- the number of different groups in both lists
     count_apart : R g1.0 l2.0 ≡ Less → different R (xs ++ ys) ≡ d1 + d2
     count_apart e =
         let none : AllByRecursion (λ x. list_any (λ y. is_eq (R x y)) ys ≡ false) xs =
@@ -179,7 +179,7 @@ module _ {G : Type 0} {R : G → G → Ordering} (o : IsTotalOrder R) where
         let both = rw there at (different_joined g1.0 xs ys all) in
         omega (arith, both, a.count_is, b.count_is)
 
-    -- the extremes of both, from what each size and the count come to
+    -- the extremes of both lists, given each size and the count
     pub merged : (n m d : ℕ) → n ≡ l1.1 + group_size R l1.0 ys → m ≡ group_size R g2.0 xs + g2.1 → d ≡ different R (xs ++ ys) → AreExtremes R (xs ++ ys) (l1.0, n) (g2.0, m) d
     merged n m d e f k = record {
       least_bound = least_all;
@@ -191,14 +191,14 @@ module _ {G : Type 0} {R : G → G → Ordering} (o : IsTotalOrder R) where
       count_is = k;
     }
 
-  -- the sizes and the count are within the length
+  -- the sizes and the count are at most the length
   pub sizes_fit : (xs : List G) (l g : G × ℕ) (d : ℕ) → AreExtremes R xs l g d → (l.1 ≤ length xs) × (g.1 ≤ length xs) × (d ≤ length xs)
   sizes_fit xs l g d a = (omega (arith, a.least_size, size-le l.0 xs), omega (arith, a.greatest_size, size-le g.0 xs), omega (arith, a.count_is, different-le xs))
 
   pub capped : (n m : ℕ) (xs ys : List G) → n ≤ length xs → m ≤ length ys → length (xs ++ ys) < 2 ^ 64 → min (n + m) (2 ^ 64 - 1) ≡ n + m
   capped n m xs ys h k l = omega (arith, length-append xs ys)
 
-  -- the arms of a merge
+  -- the cases of a merge
   module _ (xs ys : List G) (l1 g1 l2 g2 : G × ℕ) (d1 d2 : ℕ) (a : AreExtremes R xs l1 g1 d1) (b : AreExtremes R ys l2 g2 d2) (h : IsNonDescending R (xs ++ ys)) (fits : length (xs ++ ys) < 2 ^ 64) where
     pub below : (R g1.0 l2.0 ≡ Equal → ⊥) → R g1.0 l2.0 ≡ Less
     below k = less_by (R g1.0 l2.0) (boundary xs ys l1 g1 l2 g2 d1 d2 a b h) k
@@ -261,7 +261,7 @@ module _ {G : Type 0} {R : G → G → Ordering} (o : IsTotalOrder R) where
   abbrev pub TakesNext : GroupCount G → G → GroupCount G → Type 0
   TakesNext before next after = (groups : List G) (x : G) → R next x ≡ Equal → IsGroupSummary R before groups → IsNonDescending R (groups ++ x ∷ []) → length (groups ++ x ∷ []) < 2 ^ 64 → IsGroupSummary R after (groups ++ x ∷ [])
 
-  -- one key
+  -- the extremes of a list of one group
   pub single : (x g : G) → R g x ≡ Equal → AreExtremes R (x ∷ []) (g, 1) (g, 1) 1
   single x g e =
       let there : 1 ≡ group_size R g (x ∷ []) = rw (tied_back o g x e) refl in
@@ -276,14 +276,14 @@ module _ {G : Type 0} {R : G → G → Ordering} (o : IsTotalOrder R) where
       }
 
 module _ {G : Type 0} {R : G → G → Ordering} (o : IsTotalOrder R) (g m : G) (n : ℕ) (gs : List G) (bound : AllByRecursion (λ x. is_gt (R x m) ≡ false) gs) (size : n ≡ group_size R m gs) (there : 0 < n) where
-  -- by the greatest group of a list: how many are in another group
+  -- the size of another group in a list, by the greatest group of the list
   pub size_greatest_below : R m g ≡ Less → group_size R g gs ≡ 0
   size_greatest_below e = size_below o g gs (AllByRecursion-weaker (λ x. is_gt (R x m) ≡ false) (λ x. R x g ≡ Less) (λ x f. le_less o x m g f e) gs bound)
 
   pub size_greatest_same : R m g ≡ Equal → group_size R g gs ≡ n
   size_greatest_same e = sym (size_alike o m g e gs) ∙ sym size
 
-  -- none of a later list is in a group below the greatest
+  -- no group of a later list is below the greatest
   pub size_after_greatest : (back : List G) → IsNonDescending R (gs ++ back) → R g m ≡ Less → group_size R g back ≡ 0
   size_after_greatest back h e =
       let w = witness o (λ x. AllByRecursion (λ y. is_gt (R x y) ≡ false) back) m gs (omega (arith, there, size)) (crossing o gs back h) in
@@ -301,7 +301,7 @@ module _ {K G : Type 0} (cmp : K → K → Ordering) (R : G → G → Ordering) 
   groups_ascend (x ∷ xs) h = (above x xs h.0, groups_ascend xs h.1)
 
   module _ (o : IsTotalOrder R) where
-    -- one more key of a leaf
+    -- the summary after one more key of a leaf
     pub key_step : (keys : List K) (i : ℕ) (k : K) (g : G) (before after : GroupCount G) → i < length keys → k ≡ get_or keys i k → length keys < 2 ^ 64 → IsStrictlySortedBy cmp keys → R g (group_of k) ≡ Equal → TakesNext o before g after → IsGroupSummary R before (map group_of (take i keys)) → IsGroupSummary R after (map group_of (take (i + 1) keys))
     key_step keys i k g before after l read fits s e m a =
         let front = map group_of (take i keys) in
@@ -331,14 +331,14 @@ module _ {K G : Type 0} (cmp : K → K → Ordering) (R : G → G → Ordering) 
           let back = flatten (drop (suc i) pieces) in
           omega (arith, length-append (map group_of front) (map group_of piece), length-map front group_of, length-map piece group_of, are.fits, ap length (flatten-cut pieces i l), length-append front (piece ++ back), length-append piece back)
 
-    -- the groups of a part of ascending keys, and what follows it
+    -- the groups of a part of ascending keys, and of what follows it, do not descend
     pub piece_ascends : (pieces : List (List K)) (i : ℕ) → i < length pieces → IsStrictlySortedBy cmp (flatten pieces) → IsNonDescending R (map group_of (piece_at pieces i) ++ map group_of (flatten (drop (suc i) pieces)))
     piece_ascends pieces i l s =
         let piece = piece_at pieces i in
         let back = flatten (drop (suc i) pieces) in
         rw map-append at (groups_ascend (piece ++ back) (sorted_right cmp (flatten (take i pieces)) (piece ++ back) (rw (flatten-cut pieces i l) at s)))
 
-    -- how many of the whole are in a group, by the parts
+    -- the size of a group in the whole, by its sizes in the parts
     pub size_parts : (g : G) (pieces : List (List K)) (i : ℕ) → i < length pieces → group_size R g (map group_of (flatten pieces)) ≡ group_size R g (map group_of (flatten (take i pieces))) + (group_size R g (map group_of (piece_at pieces i)) + group_size R g (map group_of (flatten (drop (suc i) pieces))))
     size_parts g pieces i l =
         let front = flatten (take i pieces) in
@@ -358,7 +358,7 @@ size_of_keys R group_of g (k ∷ ks) = by (is_eq (R (group_of k) g)) (size_of_ke
   by true e = ap suc e
   by false e = e
 
--- a child's summary is of the keys below it
+-- a child's summary is one of the keys below that child
 module _ {K G : Type 0} (R : G → G → Ordering) (group_of : K → G) (pieces : List (List K)) (arguments : List (GroupCount G)) (summaries : AllZip (λ a keys. IsGroupSummary R a (map group_of keys)) arguments pieces) (i : ℕ) (l : i < length arguments) where
   pub child_within : i < length pieces
   child_within = omega (arith, l, AllZip-length (λ a keys. IsGroupSummary R a (map group_of keys)) arguments pieces summaries)

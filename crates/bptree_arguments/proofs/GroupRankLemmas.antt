@@ -1,4 +1,4 @@
--- The rank of a key in its group: how many keys of the group are smaller.
+-- The rank of a key in its group: the number of keys of the group that are smaller.
 use Rattle.std.proofs.Common.{◌≡◌, ℕ, zero, suc, ◌+◌, ◌-◌, ◌^◌, ◌<◌, ◌≤◌, min, List, [], ◌∷◌, ◌++◌, length, map, take, drop, get_or, Option, Some, None, Ok, Err, Bool, true, false, cond, refl, sym, ap, ◌∙◌, arith, append_assoc, length-append, length-drop}
 use Rattle.std.specs.declared.cmp.Ordering.{Ordering}
 use Rattle.std.specs.declared.cmp.Ordering.TheVariants.{Less, Equal, Greater}
@@ -12,7 +12,7 @@ use Rattle.std.proofs.lemmas.List.{append-nil, length-map, map-append, nil_from_
 use Rattle.bptree_arguments.specs.declared.group.GroupCount.{GroupCount}
 use Rattle.bptree_keys.specs.Pieces.{flatten, piece_at}
 use Rattle.bptree_arguments.specs.CountLaws.{count_below}
-use Rattle.bptree_arguments.specs.GroupAnswers.{IsBorderOf, carried, IsRankInGroup}
+use Rattle.bptree_arguments.specs.GroupResults.{IsBorderOf, carried, IsRankInGroup}
 use Rattle.bptree_arguments.specs.Groups.{group, group_size, IsGreatestGroup, IsGroupSummary, IsNonDescending}
 use Rattle.bptree_arguments.specs.Ranks.{AllAbove, AllBelow, IsSlotOf, SplitsAt}
 use Rattle.bptree_keys.proofs.PieceLemmas.{AllByRecursion-append, AllByRecursion-left, AllByRecursion-right, AllByRecursion-weaker, AllZip-length, flatten-cut, sorted_left, sorted_right}
@@ -22,31 +22,31 @@ use Rattle.bptree_arguments.proofs.GroupOrderLemmas.{between, less_from, size_fr
 use Rattle.bptree_arguments.proofs.RankLemmas.{SplitsAt-within}
 
 module _ {G : Type 0} {R : G → G → Ordering} (o : IsTotalOrder R) (v : G) where
-  -- groups that are neither below v nor above it
+  -- all groups are equal to v if no group is below or above it
   size_all : (gs : List G) → AllByRecursion (λ x. is_lt (R x v) ≡ false) gs → AllByRecursion (λ x. is_gt (R x v) ≡ false) gs → group_size R v gs ≡ length gs
   size_all [] h k = refl
   size_all (x ∷ xs) h k = rw (between (R x v) h.0 k.0) (ap suc (size_all xs h.1 k.1))
 
-  -- of groups that are not above v, those from where it begins are equal to it
+  -- if no group is above v, those from the beginning of v on are equal to it
   size_to_last : (gs : List G) (start : ℕ) → IsBorderOf R v false gs start → AllByRecursion (λ x. is_gt (R x v) ≡ false) gs → group_size R v gs ≡ length gs - start
   size_to_last gs start s h =
       let back = AllByRecursion-right (λ x. is_gt (R x v) ≡ false) (take start gs) (drop start gs) (rw take-append-drop h) in
       omega (arith, size_from o v gs start s, size_all (drop start gs) s.from_there back, length-drop start gs)
 
-  -- in front of groups of which the first is below v, none is equal to it
+  -- no group in front of groups of which the first is below v is equal to v
   size_ahead : (fs gs : List G) (start : ℕ) → 0 < start → start ≤ length gs → AllByRecursion (λ x. is_lt (R x v) ≡ true) (take start gs) → IsNonDescending R (fs ++ gs) → group_size R v fs ≡ 0
   size_ahead fs [] start p l b h = absurd (omega arith)
   size_ahead fs (x ∷ xs) zero p l b h = absurd (omega arith)
   size_ahead fs (x ∷ xs) (suc n) p l b h =
       size_below o v fs (AllByRecursion-weaker (λ y. AllByRecursion (λ z. is_gt (R y z) ≡ false) (x ∷ xs)) (λ y. R y v ≡ Less) (λ y f. le_less o y x v f.0 (less_from (R x v) b.0)) fs (crossing o fs (x ∷ xs) h))
 
-  -- an equal group is carried as well
+  -- a rank carries the same number for equal groups
   pub carried_alike : (g : G) → R v g ≡ Equal → (rank : Option (G × ℕ)) → carried R v rank ≡ carried R g rank
   carried_alike g e None = refl
   carried_alike g e (Some r) = ap (λ b. cond b r.1 0) (ap is_eq (alike_right o v g r.0 e))
 
 module _ {K G : Type 0} (cmp : K → K → Ordering) (R : G → G → Ordering) (group_of : K → G) (keeps : (x y : K) → is_gt (cmp x y) ≡ false → is_gt (R (group_of x) (group_of y)) ≡ false) (o : IsTotalOrder R) (k : K) where
-  -- keys below k are in no group above its own
+  -- keys below k are in no group above that of k
   pub groups_upto : (keys : List K) → AllBelow cmp k keys → AllByRecursion (λ x. is_gt (R x (group_of k)) ≡ false) (map group_of keys)
   groups_upto [] h = tt
   groups_upto (x ∷ xs) h = (keeps x k (ap is_gt h.0), groups_upto xs h.1)
@@ -63,19 +63,19 @@ module _ {K G : Type 0} (cmp : K → K → Ordering) (R : G → G → Ordering) 
     whole : group_size R (group_of k) (map group_of (before ++ smaller)) ≡ group_size R (group_of k) (map group_of before) + (length smaller - start)
     whole = omega (arith, ap (group_size R (group_of k)) (map-append group_of before smaller), size-append o (group_of k) (map group_of before) (map group_of smaller), in_leaf)
 
-    -- some key of the leaf is of a lesser group
+    -- the number, if some smaller key of the leaf is of a lesser group
     pub ranked_in_leaf : 0 < start → length smaller - start ≡ group_size R (group_of k) (map group_of (before ++ smaller))
     ranked_in_leaf p =
         let ascend = rw map-append at (groups_ascend cmp R group_of keeps (before ++ smaller) ascending) in
         let none = size_ahead o v (map group_of before) (map group_of smaller) start p (omega (arith, within, length-map smaller group_of)) starts.before ascend in
         omega (arith, whole, none, size_alike o v (group_of k) made (map group_of before))
 
-    -- none is
+    -- the number, if no smaller key of the leaf is of a lesser group
     pub ranked_with_carried : (rank : Option (G × ℕ)) (n : ℕ) → length (before ++ smaller) < 2 ^ 64 → group_size R (group_of k) (map group_of before) ≡ carried R (group_of k) rank → start ≤ 0 → n ≡ carried R v rank → min ((length smaller - start) + n) (2 ^ 64 - 1) ≡ group_size R (group_of k) (map group_of (before ++ smaller))
-    ranked_with_carried rank n fits stands l e =
-        omega (arith, whole, stands, e, carried_alike o v (group_of k) made rank, size-le o (group_of k) (map group_of (before ++ smaller)), length-map (before ++ smaller) group_of, fits)
+    ranked_with_carried rank n fits stored l e =
+        omega (arith, whole, stored, e, carried_alike o v (group_of k) made rank, size-le o (group_of k) (map group_of (before ++ smaller)), length-map (before ++ smaller) group_of, fits)
 
-  -- how many keys of k's group are below k, where a list is split there
+  -- the number of keys of k's group that are below k, in a list that is split at k
   none_counted : (rest : List K) → AllByRecursion (λ x. is_lt (cmp x k) ≡ false) rest → count_below cmp k (group R group_of (group_of k) rest) ≡ 0
   none_counted [] h = refl
   none_counted (x ∷ xs) h = by (is_eq (R (group_of x) (group_of k))) (none_counted xs h.1) where
@@ -96,7 +96,7 @@ module _ {K G : Type 0} (cmp : K → K → Ordering) (R : G → G → Ordering) 
       let above = AllByRecursion-weaker (λ x. cmp x k ≡ Greater) (λ x. is_lt (cmp x k) ≡ false) (λ x e. ap is_lt e) back s.above in
       rw s.parts (counted front (middle ++ back) s.below (AllByRecursion-append (λ x. is_lt (cmp x k) ≡ false) middle back equal above))
 
-  -- the rank at a place of a leaf, from what the smaller keys of the leaf and the rank before it come to
+  -- the rank at a slot of a leaf, computed from the smaller keys of the leaf and the rank before it
   module _ (keys before after : List K) (ascending : IsStrictlySortedBy cmp (before ++ (keys ++ after))) (low : AllBelow cmp k before) (high : AllAbove cmp k after) (fits : length (before ++ (keys ++ after)) < 2 ^ 64) (i : ℕ) (r : G × ℕ) (made : R r.0 (group_of k) ≡ Equal) (ranked : IsStrictlySortedBy cmp (before ++ take i keys) → AllBelow cmp k (take i keys) → length (before ++ take i keys) < 2 ^ 64 → r.1 ≡ group_size R (group_of k) (map group_of (before ++ take i keys))) where
     rank_at : (front middle back : List K) → length front ≡ i → SplitsAt cmp k keys front middle back → IsRankInGroup R group_of k cmp (before ++ (keys ++ after)) (Some r)
     rank_at front middle back l s =
@@ -112,7 +112,7 @@ module _ {K G : Type 0} (cmp : K → K → Ordering) (R : G → G → Ordering) 
     pub rank_absent : IsSlotOf cmp k keys (Err i) → IsRankInGroup R group_of k cmp (before ++ (keys ++ after)) (Some r)
     rank_absent (front, back, l, s) = rank_at front [] back l s
 
--- the groups before those of which the greatest is below v
+-- no group before groups of which the greatest is below v is equal to v
 size_before_greatest : {G : Type 0} {R : G → G → Ordering} (o : IsTotalOrder R) (v m : G) (fs gs : List G) → 0 < group_size R m gs → R m v ≡ Less → IsNonDescending R (fs ++ gs) → group_size R v fs ≡ 0
 size_before_greatest {G} {R} o v m fs gs there e h = size_below o v fs (AllByRecursion-weaker (λ y. AllByRecursion (λ z. is_gt (R y z) ≡ false) gs) (λ y. R y v ≡ Less) each fs (crossing o fs gs h)) where
   each : (y : G) → AllByRecursion (λ z. is_gt (R y z) ≡ false) gs → R y v ≡ Less
@@ -124,27 +124,27 @@ flatten-from [] i h = absurd (omega arith)
 flatten-from (p ∷ ps) zero h = refl
 flatten-from (p ∷ ps) (suc i) h = let small : i < length ps = omega arith in flatten-from ps i small
 
--- where there is no child, nothing is added
+-- if there is no child, nothing is added
 pub no_child : {A X : Type 0} (P : A → List X → Type 0) (arguments : List A) (pieces : List (List X)) → AllZip P arguments pieces → length arguments ≡ 0 → (before : List X) → before ++ flatten pieces ≡ before
 no_child P arguments pieces summaries e before = let none : pieces ≡ [] = nil_from_length pieces (sym (AllZip-length P arguments pieces summaries) ∙ e) in rw none (append-nil before)
 
--- the children before the one for k, from the last on
+-- the children before the one for k, from the last one backwards
 module _ {K G : Type 0} (cmp : K → K → Ordering) (R : G → G → Ordering) (group_of : K → G) (keeps : (x y : K) → is_gt (cmp x y) ≡ false → is_gt (R (group_of x) (group_of y)) ≡ false) (o : IsTotalOrder R) (k : K) (v : G) (made : R v (group_of k) ≡ Equal) (arguments : List (GroupCount G)) (pieces : List (List K)) (summaries : AllZip (λ a keys. IsGroupSummary R a (map group_of keys)) arguments pieces) where
   same_length : length arguments ≡ length pieces
   same_length = AllZip-length (λ a keys. IsGroupSummary R a (map group_of keys)) arguments pieces summaries
 
-  -- behind the last
+  -- behind the last child, the count is 0
   pub none_behind : 0 ≡ min (group_size R v (map group_of (flatten (drop (length arguments) pieces)))) (2 ^ 64 - 1)
   none_behind = let none : drop (length arguments) pieces ≡ [] = rw same_length (drop-length pieces) in rw none (omega arith)
 
   module _ (m count : ℕ) (counted : count ≡ min (group_size R v (map group_of (flatten (drop m pieces)))) (2 ^ 64 - 1)) where
-    -- where no child is left, the whole is what they have and what the rank carries
+    -- if no child is left, the number of the whole is that of the children plus that of the rank
     pub all_counted : (rank : Option (G × ℕ)) (n : ℕ) (before : List K) → m ≤ 0 → length (before ++ flatten pieces) < 2 ^ 64 → group_size R (group_of k) (map group_of before) ≡ carried R (group_of k) rank → n ≡ carried R v rank → group_size R (group_of k) (map group_of (before ++ flatten pieces)) ≡ carried R (group_of k) (Some (v, min (count + n) (2 ^ 64 - 1)))
-    all_counted rank n before l fits stands e =
+    all_counted rank n before l fits stored e =
         let first : m ≡ 0 = omega arith in
         let here : count ≡ min (group_size R v (map group_of (flatten pieces))) (2 ^ 64 - 1) = rw first at counted in
         let total = ap (group_size R (group_of k)) (map-append group_of before (flatten pieces)) ∙ size-append o (group_of k) (map group_of before) (map group_of (flatten pieces)) in
-        rw made (omega (arith, total, here, stands, e, size_alike o v (group_of k) made (map group_of (flatten pieces)), carried_alike o v (group_of k) made rank, size-le o (group_of k) (map group_of (before ++ flatten pieces)), length-map (before ++ flatten pieces) group_of, fits))
+        rw made (omega (arith, total, here, stored, e, size_alike o v (group_of k) made (map group_of (flatten pieces)), carried_alike o v (group_of k) made rank, size-le o (group_of k) (map group_of (before ++ flatten pieces)), length-map (before ++ flatten pieces) group_of, fits))
 
     module _ (positive : 0 < m) (within : m ≤ length arguments) (argument : GroupCount G) (read : argument ≡ get_or arguments (m - 1) argument) where
       abbrev here : List G
@@ -168,7 +168,7 @@ module _ {K G : Type 0} (cmp : K → K → Ordering) (R : G → G → Ordering) 
       more : (n : ℕ) → group_size R v here ≡ n → min (count + n) (2 ^ 64 - 1) ≡ min (group_size R v (map group_of (flatten (drop (m - 1) pieces)))) (2 ^ 64 - 1)
       more n e = omega (arith, sizes, e, counted)
 
-      -- one child more, which has no keys
+      -- the count after one more child, which has no keys
       pub more_none : ((groups : List G) → IsGroupSummary R argument groups → IsGreatestGroup R groups None) → count ≡ min (group_size R v (map group_of (flatten (drop (m - 1) pieces)))) (2 ^ 64 - 1)
       more_none found = let none : group_size R v here ≡ 0 = ap (group_size R v) (found here summary) in omega (arith, more 0 none, counted)
 
@@ -176,7 +176,7 @@ module _ {K G : Type 0} (cmp : K → K → Ordering) (R : G → G → Ordering) 
         greatest : IsGreatestGroup R here (Some (h, n))
         greatest = found here summary
 
-        -- one child more, whose greatest group is that of k
+        -- the count after one more child, whose greatest group is that of k
         pub more_same : Equal ≡ R h v → min (count + n) (2 ^ 64 - 1) ≡ min (group_size R v (map group_of (flatten (drop (m - 1) pieces)))) (2 ^ 64 - 1)
         more_same e = more n (size_greatest_same o v h n here greatest.0 greatest.1 greatest.2 (sym e))
 

@@ -1,4 +1,4 @@
--- Items of groups: where they stand in a leaf and below the children of a node.
+-- Items of groups: their indexes in a leaf and below the children of a node.
 use Rattle.std.proofs.Common.{◌≡◌, ℕ, zero, suc, ◌+◌, ◌-◌, ◌<◌, ◌≤◌, List, [], ◌∷◌, ◌++◌, length, map, take, drop, get_or, Option, Some, None, Bool, true, false, refl, sym, ap, ◌∙◌, arith, length-append, length-drop}
 use Rattle.std.specs.declared.cmp.Ordering.{Ordering}
 use Rattle.std.specs.declared.cmp.Ordering.TheVariants.{Less, Equal, Greater}
@@ -12,9 +12,9 @@ use Rattle.std.proofs.lemmas.Cmp.{upto}
 use Rattle.std.proofs.lemmas.List.{length-map, length-take, take-append-drop, map-append, take-append-le, get_or_append_left, get_or-append-add, get_or-drop, get_or-map}
 use Rattle.bptree_arguments.specs.declared.group.GroupCount.{GroupCount}
 use Rattle.bptree_keys.specs.Pieces.{flatten, piece_at, start_of, ArePieces}
-use Rattle.bptree_arguments.specs.Selection.{moved_by, IsPlaceIn, LeadsTo}
+use Rattle.bptree_arguments.specs.Selection.{moved_by, IsIndexBelow, LeadsTo}
 use Rattle.bptree_arguments.specs.Groups.{group_size, IsGroupSummary, IsGreatestGroup, IsNonDescending, SelectsInGroup}
-use Rattle.bptree_arguments.specs.GroupAnswers.{IsBorderOf}
+use Rattle.bptree_arguments.specs.GroupResults.{IsBorderOf}
 use Rattle.bptree_keys.proofs.PieceLemmas.{AllByRecursion-at, AllByRecursion-weaker, flatten-cut}
 use Rattle.bptree_arguments.proofs.GroupLemmas.{child_within, equal_from, summary_here, size-append, size-le, size_above, size_greatest_below, size_greatest_same, size_after_greatest, groups_ascend, piece_ascends, size_parts, size_more}
 use Rattle.bptree_arguments.specs.GroupClones.{less_le}
@@ -38,14 +38,14 @@ module _ {K G : Type 0} (cmp : K → K → Ordering) (R : G → G → Ordering) 
   here = map group_of (piece_at pieces i)
 
   abbrev selects : G × ℕ → List K → Option ℕ → Type 0
-  selects query keys place = SelectsInGroup R query.0 query.1 (map group_of keys) place
+  selects query keys index = SelectsInGroup R query.0 query.1 (map group_of keys) index
 
   next : (n : ℕ) → group_size R g here ≡ n → n ≤ rest → (rest - n) + group_size R g (map group_of (flatten (take (i + 1) pieces))) ≡ offset
   next n e k = let parts = size_more cmp R group_of keeps o g pieces i inside in omega (arith, parts, e, passed, k)
 
   leads : (group_size R g here ≤ rest → group_size R g (map group_of (flatten (drop (suc i) pieces))) ≡ 0) → LeadsTo selects (g, offset) pieces (Some (i, (g, rest)))
   leads none = (inside, moved) where
-    moved : (place : Option ℕ) → IsPlaceIn (piece_at pieces i) place → selects (g, rest) (piece_at pieces i) place → selects (g, offset) (flatten pieces) (moved_by (start_of pieces i) place)
+    moved : (index : Option ℕ) → IsIndexBelow (piece_at pieces i) index → selects (g, rest) (piece_at pieces i) index → selects (g, offset) (flatten pieces) (moved_by (start_of pieces i) index)
     moved None p s = let parts = size_parts cmp R group_of keeps o g pieces i inside in omega (arith, parts, none s, s, passed)
     moved (Some j) p s =
         let front = flatten (take i pieces) in
@@ -59,7 +59,7 @@ module _ {K G : Type 0} (cmp : K → K → Ordering) (R : G → G → Ordering) 
     summary : IsGroupSummary R argument here
     summary = summary_here R group_of pieces arguments summaries i l argument read
 
-    -- past a child: what is left of the place, and the keys of the group so far
+    -- past a child, what is left of the index and the keys of the group so far add up to the index
     pub next_none : ((groups : List G) → IsGroupSummary R argument groups → IsGreatestGroup R groups None) → rest + group_size R g (map group_of (flatten (take (i + 1) pieces))) ≡ offset
     next_none found = let none : group_size R g here ≡ 0 = ap (group_size R g) (found here summary) in omega (arith, next 0 none (omega arith))
 
@@ -73,16 +73,17 @@ module _ {K G : Type 0} (cmp : K → K → Ordering) (R : G → G → Ordering) 
       pub next_same : Equal ≡ R m g → n ≤ rest → (rest - n) + group_size R g (map group_of (flatten (take (i + 1) pieces))) ≡ offset
       next_same e k = next n (size_greatest_same o g m n here greatest.0 greatest.1 greatest.2 (sym e)) k
 
-      -- the child leads on, where its greatest group has the key, and where it is above the query's
+      -- the query leads to the child if the child's greatest group has the key, and if that group
+      -- is above the query's
       pub leads_same : Equal ≡ R m g → rest < n → LeadsTo selects (g, offset) pieces (Some (i, (g, rest)))
       leads_same e k = leads (λ s. absurd (omega (arith, s, k, size_greatest_same o g m n here greatest.0 greatest.1 greatest.2 (sym e))))
 
       pub leads_above : Greater ≡ R m g → LeadsTo selects (g, offset) pieces (Some (i, (g, rest)))
       leads_above e = leads (λ _. size_after_greatest o g m n here greatest.0 greatest.1 greatest.2 (map group_of (flatten (drop (suc i) pieces))) (piece_ascends cmp R group_of keeps o pieces i inside are.ascending) (o.antisymm g m ∙ ap ordering_reverse (sym e)))
 
--- the place of an item of a leaf, from where its group begins
+-- the index of an item of a leaf, from the beginning of its group
 module _ {G : Type 0} {R : G → G → Ordering} (o : IsTotalOrder R) (g : G) where
-  -- of groups that are not below g, those before one that is equal are equal too
+  -- if no group is below g, those before one that is equal to g are equal too
   size_before : (gs : List G) (n : ℕ) (d : G) → n < length gs → IsNonDescending R gs → AllByRecursion (λ x. is_lt (R x g) ≡ false) gs → R (get_or gs n d) g ≡ Equal → group_size R g (take n gs) ≡ n
   size_before [] n d l h k e = absurd (omega arith)
   size_before (x ∷ xs) zero d l h k e = refl
@@ -91,7 +92,7 @@ module _ {G : Type 0} {R : G → G → Ordering} (o : IsTotalOrder R) (g : G) wh
       let low : is_gt (R x g) ≡ false = upto o x (get_or xs n d) g (AllByRecursion-at (λ y. is_gt (R x y) ≡ false) xs n d small h.0) (ap is_gt e) in
       rw (between (R x g) k.0 low) (ap suc (size_before xs n d small h.1 k.1 e))
 
-  -- and from one that is not equal on, none is
+  -- if no group is below g, no group from one that is not equal to g on is equal to g
   size_to : (gs : List G) (n : ℕ) (d : G) → n < length gs → IsNonDescending R gs → AllByRecursion (λ x. is_lt (R x g) ≡ false) gs → is_eq (R (get_or gs n d) g) ≡ false → group_size R g gs ≤ n
   size_to gs n d l h k e =
       let x = get_or gs n d in
@@ -122,8 +123,8 @@ module _ {G : Type 0} {R : G → G → Ordering} (o : IsTotalOrder R) (g : G) wh
       other : is_eq (R (get_or gs (start + n) d) g) ≡ false → group_size R g gs ≤ n
       other e = omega (arith, size_from o g gs start s, size_to (drop start gs) n d small ascends s.from_there (rw there e))
 
-      place : R (get_or gs (start + n) d) g ≡ Equal → group_size R g (take (start + n) gs) ≡ n
-      place e =
+      index : R (get_or gs (start + n) d) g ≡ Equal → group_size R g (take (start + n) gs) ≡ n
+      index e =
           let parts : take (start + n) gs ≡ take start gs ++ take n (drop start gs) = take-add start n gs in
           let sum = size-append o g (take start gs) (take n (drop start gs)) in
           ap (group_size R g) parts ∙ omega (arith, sum, size_in_front o g gs start s, size_before (drop start gs) n d small ascends s.from_there (rw there e))
@@ -132,11 +133,11 @@ module _ {K G : Type 0} (cmp : K → K → Ordering) (R : G → G → Ordering) 
   ascend : IsNonDescending R (map group_of keys)
   ascend = groups_ascend cmp R group_of keeps keys ascending
 
-  -- the place is past the leaf
+  -- the query selects `None`, if the index is past the leaf
   pub leaf_past : length keys - start ≤ n → SelectsInGroup R g n (map group_of keys) None
   leaf_past l = past o g (map group_of keys) ascend start s n (omega (arith, l, length-map keys group_of))
 
-  module _ (l : n < length keys - start) (k : K) (read : k ≡ get_or keys (start + n) k) (v : G) (made : R v (group_of k) ≡ Equal) (r : Ordering) (compared : r ≡ R v g) (answer : Bool) (is : answer ≡ is_eq r) where
+  module _ (l : n < length keys - start) (k : K) (read : k ≡ get_or keys (start + n) k) (v : G) (made : R v (group_of k) ≡ Equal) (r : Ordering) (compared : r ≡ R v g) (outcome : Bool) (is : outcome ≡ is_eq r) where
     within_leaf : start + n < length (map group_of keys)
     within_leaf = omega (arith, l, length-map keys group_of)
 
@@ -146,12 +147,12 @@ module _ {K G : Type 0} (cmp : K → K → Ordering) (R : G → G → Ordering) 
         let here : get_or (map group_of keys) (start + n) d ≡ group_of k = get_or-map group_of keys (start + n) k d within ∙ ap group_of (sym read) in
         rw here (sym (compared ∙ o.congr v (group_of k) g made))
 
-    -- the key at it is of another group
-    pub leaf_other : answer ≡ false → SelectsInGroup R g n (map group_of keys) None
+    -- the query selects `None`, if the key at the index is of another group
+    pub leaf_other : outcome ≡ false → SelectsInGroup R g n (map group_of keys) None
     leaf_other e = other o g (map group_of keys) ascend start s n v within_leaf (ap is_eq (same v) ∙ (sym is ∙ e))
 
-    -- the key at it is of the group
-    pub leaf_item : answer ≡ true → SelectsInGroup R g n (map group_of keys) (Some (start + n))
+    -- the query selects the key at the index, if that key is of the group
+    pub leaf_item : outcome ≡ true → SelectsInGroup R g n (map group_of keys) (Some (start + n))
     leaf_item e =
         let equal = equal_from r (sym is ∙ e) in
-        (within_leaf, (λ d. same d ∙ equal), place o g (map group_of keys) ascend start s n v within_leaf (same v ∙ equal))
+        (within_leaf, (λ d. same d ∙ equal), index o g (map group_of keys) ascend start s n v within_leaf (same v ∙ equal))

@@ -1,4 +1,4 @@
--- Summaries of groups that are put together one after another.
+-- Summaries of groups that are combined one after another.
 use Rattle.std.proofs.Common.{◌≡◌, ℕ, zero, suc, ◌+◌, ◌-◌, ◌^◌, ◌<◌, ◌≤◌, min, List, [], ◌∷◌, length, take, drop, drop-cons, get_or, ◌++◌, Option, Some, None, false, cond, refl, sym, ap, ◌∙◌, arith}
 use Rattle.std.specs.declared.cmp.Ordering.{Ordering}
 use Rattle.std.specs.declared.cmp.Ordering.TheVariants.{Less, Equal, Greater}
@@ -9,18 +9,18 @@ use Rattle.std.proofs.lemmas.Cmp.{alike_right}
 use Rattle.std.proofs.lemmas.List.{take-append-drop}
 use Rattle.std.proofs.lemmas.List.Sums.{fold-append, fold_more}
 use Rattle.bptree_arguments.specs.declared.group.GroupCount.{GroupCount}
-use Rattle.bptree_arguments.specs.GroupSums.{Told, told_by, told_beside, told_together, greatest_of, carried_past, carried_over}
+use Rattle.bptree_arguments.specs.GroupSums.{Reported, summary_of_group, combined_options, combined_all, greatest_of, carried_past, carried_over}
 
 module _ {G : Type 0} (R : G → G → Ordering) where
-  -- one summary more
-  pub more_told : (xs : List (GroupCount G)) (i : ℕ) (x : GroupCount G) → i < length xs → x ≡ get_or xs i x → (whole : Option (Told G)) → whole ≡ told_together R (take i xs) → told_beside R whole (told_by x) ≡ told_together R (take (i + 1) xs)
-  more_told xs i x inside is whole before =
-      let step : told_together R (take (i + 1) xs) ≡ told_beside R (told_together R (take i xs)) (told_by (get_or xs i x)) = fold_more (λ w s. told_beside R w (told_by s)) None xs i x inside in
-      let here : told_beside R whole (told_by x) ≡ told_beside R (told_together R (take i xs)) (told_by (get_or xs i x)) = ap (λ w. told_beside R w (told_by x)) before ∙ ap (λ s. told_beside R (told_together R (take i xs)) (told_by s)) is in
+  -- the contents after one more summary
+  pub more_reported : (xs : List (GroupCount G)) (i : ℕ) (x : GroupCount G) → i < length xs → x ≡ get_or xs i x → (whole : Option (Reported G)) → whole ≡ combined_all R (take i xs) → combined_options R whole (summary_of_group x) ≡ combined_all R (take (i + 1) xs)
+  more_reported xs i x inside is whole before =
+      let step : combined_all R (take (i + 1) xs) ≡ combined_options R (combined_all R (take i xs)) (summary_of_group (get_or xs i x)) = fold_more (λ w s. combined_options R w (summary_of_group s)) None xs i x inside in
+      let here : combined_options R whole (summary_of_group x) ≡ combined_options R (combined_all R (take i xs)) (summary_of_group (get_or xs i x)) = ap (λ w. combined_options R w (summary_of_group x)) before ∙ ap (λ s. combined_options R (combined_all R (take i xs)) (summary_of_group s)) is in
       here ∙ sym step
 
 module _ {G : Type 0} {R : G → G → Ordering} (o : IsTotalOrder R) where
-  -- a number is carried past the same for an equal group
+  -- a number is carried past a greatest group alike for equal groups
   past_alike : (v g : G) → R v g ≡ Equal → (n : ℕ) (greatest : Option (G × ℕ)) → carried_past R v n greatest ≡ carried_past R g n greatest
   past_alike v g e n None = refl
   past_alike v g e n (Some r) = ap (λ b. cond b (n + r.1) 0) (ap is_eq (alike_right o v g r.0 e))
@@ -35,7 +35,8 @@ unequal Equal other = absurd (other refl)
 unequal Greater other = refl
 
 module _ {G : Type 0} (R : G → G → Ordering) (v : G) where
-  -- what is carried over the summaries from a place on is what comes to it and what they have
+  -- a number carried over the summaries from an index on is the number before them plus their
+  -- count, or the greatest `usize` if that is less
   abbrev pub Counts : List (GroupCount G) → ℕ → ℕ → Type 0
   Counts xs i count = (n : ℕ) → min (carried_over R v n (drop i xs)) (2 ^ 64 - 1) ≡ min (n + count) (2 ^ 64 - 1)
 
@@ -64,7 +65,7 @@ module _ {G : Type 0} (R : G → G → Ordering) (v : G) where
           let more : carried_past R v n (greatest_of x) ≡ n + m = rw (← is) (ap (λ r. cond (is_eq r) (n + m) 0) (sym e)) in
           omega (arith, past n, ap (λ k. carried_over R v k (drop i xs)) more, counts (n + m))
 
-      -- past a summary whose greatest group is another nothing is carried
+      -- no number is carried past a summary whose greatest group is another
       pub stopped_over : (R h v ≡ Equal → ⊥) → (n : ℕ) → count < 2 ^ 64 → count ≡ min (carried_over R v n xs) (2 ^ 64 - 1)
       stopped_over other n small =
           let front = carried_over R v n (take (i - 1) xs) in
@@ -73,7 +74,7 @@ module _ {G : Type 0} (R : G → G → Ordering) (v : G) where
           let none : carried_past R v front (greatest_of x) ≡ 0 = rw (← is) (ap (λ b. cond b (front + m) 0) (unequal (R h v) other)) in
           omega (arith, whole, past front, ap (λ k. carried_over R v k (drop i xs)) none, counts 0)
 
-  -- where no summary is left, they have what is carried
+  -- if no summary is left, the number carried over all is their count plus the number before them
   pub all_over : (xs : List (GroupCount G)) (i count n : ℕ) → Counts xs i count → i ≤ 0 → min (carried_over R v n xs) (2 ^ 64 - 1) ≡ min (count + n) (2 ^ 64 - 1)
   all_over xs i count n counts l =
       let first : i ≡ 0 = omega arith in

@@ -15,7 +15,7 @@ neither_above Equal s e first second = refl
 neither_above Greater s e first second = absurd (true≢false first)
 
 module _ {G : Type 0} {R : G → G → Ordering} (o : IsTotalOrder R) where
-  -- where no group is below g and none above it, each is g's
+  -- if no group is below g and no group is above it, each is equal to g
   all_of_size : (g : G) (xs : List G) → AllByRecursion (λ x. is_gt (R g x) ≡ false) xs → AllByRecursion (λ x. is_gt (R x g) ≡ false) xs → group_size R g xs ≡ length xs
   all_of_size g [] low high = refl
   all_of_size g (x ∷ xs) low high =

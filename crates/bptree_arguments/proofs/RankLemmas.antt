@@ -1,4 +1,4 @@
--- How many keys are smaller than one that is searched for.
+-- The number of keys that are smaller than one that is searched for.
 use Rattle.std.proofs.Common.{◌≡◌, ℕ, ◌+◌, ◌-◌, ◌^◌, ◌<◌, ◌≤◌, min, List, [], ◌∷◌, ◌++◌, length, Result, Ok, Err, Bool, true, false, refl, ap, ◌∙◌, arith, length-append, append_assoc}
 use Rattle.std.specs.declared.cmp.Ordering.{Ordering}
 use Rattle.std.specs.declared.cmp.Ordering.TheVariants.{Less, Equal, Greater}
@@ -10,7 +10,7 @@ use Rattle.bptree_arguments.specs.CountLaws.{count_below}
 use Rattle.bptree_arguments.specs.Ranks.{AllAbove, AllBelow, IsSlotIn, IsSlotOf, SplitsAt}
 use Rattle.bptree_keys.proofs.PieceLemmas.{AllByRecursion-append, AllByRecursion-weaker}
 
--- a test that every element passes keeps the list, and one that none passes keeps nothing
+-- a test that every element passes keeps the list, and one that no element passes keeps nothing
 module _ {X : Type 0} (p : X → Bool) where
   filter_all : (xs : List X) → AllByRecursion (λ x. p x ≡ true) xs → filter p xs ≡ xs
   filter_all [] h = refl
@@ -20,7 +20,7 @@ module _ {X : Type 0} (p : X → Bool) where
   filter_none [] h = refl
   filter_none (x ∷ xs) h = rw h.0 (filter_none xs h.1)
 
--- the index in either answer of a search
+-- the index in either result of a search
 abbrev pub slot_index : Result ℕ ℕ → ℕ
 slot_index (Ok i) = i
 slot_index (Err i) = i
@@ -34,7 +34,7 @@ module _ {K : Type 0} (cmp : K → K → Ordering) (k : K) where
       let back_gone = filter_none (λ x. is_lt (cmp x k)) back (AllByRecursion-weaker (λ x. cmp x k ≡ Greater) (λ x. is_lt (cmp x k) ≡ false) (λ x e. ap is_lt e) back s.above) in
       rw (s.parts, filter-append (λ x. is_lt (cmp x k)) front (middle ++ back), filter-append (λ x. is_lt (cmp x k)) middle back, front_kept, middle_gone, back_gone) (length-append front [] ∙ omega arith)
 
-  -- smaller keys before a split, and greater keys after it, split at the same key
+  -- a split with smaller keys before it and greater keys after it is a split at the same key
   pub SplitsAt-within : (keys front middle back before after : List K) → SplitsAt cmp k keys front middle back → AllBelow cmp k before → AllAbove cmp k after → SplitsAt cmp k (before ++ (keys ++ after)) (before ++ front) middle (back ++ after)
   SplitsAt-within keys front middle back before after s low high = record {
     parts = rw s.parts (simp append_assoc);
@@ -50,16 +50,16 @@ module _ {K : Type 0} (cmp : K → K → Ordering) (k : K) where
   count_below-slot keys before after (Err i) (front, back, l, s) low high =
       count_below-split (before ++ (keys ++ after)) (before ++ front) [] (back ++ after) (SplitsAt-within keys front [] back before after s low high) ∙ omega (arith, length-append before front, l)
 
-  -- the place of a key is in range
+  -- the slot of a key is in range
   pub IsSlotOf-in : (keys : List K) (slot : Result ℕ ℕ) → IsSlotOf cmp k keys slot → IsSlotIn keys slot
   IsSlotOf-in keys (Ok i) (front, back, x, l, s) = omega (arith, l, ap length s.parts, length-append front (x ∷ back))
   IsSlotOf-in keys (Err i) (front, back, l, s) = omega (arith, l, ap length s.parts, length-append front back)
 
-  -- a count of keys fits where the list's length does
+  -- the count of keys below k is at most the length of the list
   pub count_below-le : (keys : List K) → count_below cmp k keys ≤ length keys
   count_below-le keys = omega (arith, length-filter (λ x. is_lt (cmp x k)) keys, count_by-le-length (λ x. is_lt (cmp x k)) keys)
 
   -- a rank that counts the keys before a leaf counts those below k once k's slot is added
-  pub counted_at_slot : (rank : ℕ) (keys : List K) (slot : Result ℕ ℕ) (answer : ℕ) → answer ≡ min (rank + slot_index slot) (2 ^ 64 - 1) → IsSlotOf cmp k keys slot → (before after : List K) → AllBelow cmp k before → AllAbove cmp k after → length (before ++ (keys ++ after)) < 2 ^ 64 → rank ≡ length before → answer ≡ count_below cmp k (before ++ (keys ++ after))
-  counted_at_slot rank keys slot answer is placed before after low high fits stands =
-      omega (arith, is, count_below-slot keys before after slot placed low high, fits, stands, count_below-le (before ++ (keys ++ after)))
+  pub counted_at_slot : (rank : ℕ) (keys : List K) (slot : Result ℕ ℕ) (outcome : ℕ) → outcome ≡ min (rank + slot_index slot) (2 ^ 64 - 1) → IsSlotOf cmp k keys slot → (before after : List K) → AllBelow cmp k before → AllAbove cmp k after → length (before ++ (keys ++ after)) < 2 ^ 64 → rank ≡ length before → outcome ≡ count_below cmp k (before ++ (keys ++ after))
+  counted_at_slot rank keys slot outcome is placed before after low high fits stored =
+      omega (arith, is, count_below-slot keys before after slot placed low high, fits, stored, count_below-le (before ++ (keys ++ after)))

@@ -1,4 +1,4 @@
--- Summaries of groups see keys up to equality.
+-- Summaries of groups depend on keys only up to equality.
 use Rattle.std.proofs.Common.{◌≡◌, ℕ, suc, ◌+◌, List, [], ◌∷◌, length, map, Bool, true, false, cond, ◌||◌, refl, sym, ap, ◌∙◌, subst}
 use Rattle.std.specs.declared.cmp.Ordering.{Ordering}
 use Rattle.std.specs.declared.cmp.Ordering.TheVariants.{Less, Equal, Greater}
@@ -13,7 +13,7 @@ use Rattle.bptree_arguments.specs.declared.group.GroupCount.TheVariants.{Zero, O
 use Rattle.bptree_arguments.specs.Groups.{group_size, different, AreExtremes, IsGroupSummary, AreAlike}
 use Rattle.bptree_keys.proofs.PieceLemmas.{AllByRecursion-weaker}
 
--- an order that is not above, either way round, is equal
+-- an order that is not above, in either direction, is equal
 equal_both_ways : (r s : Ordering) → s ≡ ordering_reverse r → is_gt r ≡ false → is_gt s ≡ false → r ≡ Equal
 equal_both_ways Less s e first second = absurd (true≢false (rw e at second))
 equal_both_ways Equal s e first second = refl
@@ -37,7 +37,7 @@ module _ {G : Type 0} {R : G → G → Ordering} (o : IsTotalOrder R) where
   pub size_alike : (g h : G) → R g h ≡ Equal → (xs : List G) → group_size R g xs ≡ group_size R h xs
   size_alike g h e xs = ap length (filter_agree (λ x. is_eq (R x g)) (λ x. is_eq (R x h)) (λ x. ap is_eq (alike_right o g h x e)) xs)
 
-  -- a group equal to an extreme stands for it
+  -- an extreme can be replaced by a group equal to it
   pub least_alike : (xs : List G) (l g : G × ℕ) (d : ℕ) (m : G) → R l.0 m ≡ Equal → AreExtremes R xs l g d → AreExtremes R xs (m, l.1) g d
   least_alike xs l g d m e a = record {
     least_bound = AllByRecursion-weaker (λ x. is_gt (R l.0 x) ≡ false) (λ x. is_gt (R m x) ≡ false) (λ x f. upto o m l.0 x (ap is_gt (tied_back o l.0 m e)) f) xs a.least_bound;
@@ -76,7 +76,8 @@ module _ {G : Type 0} {R : G → G → Ordering} (o : IsTotalOrder R) where
       let moved = greatest_alike gs (l'.0, l.1) g n g'.0 e.2 (least_alike gs l g n l'.0 e.0 s.0) in
       (subst (λ k. AreExtremes R gs l' (g'.0, k) m) e.3 (subst (λ k. AreExtremes R gs (l'.0, k) (g'.0, g.1) m) e.1 (subst (λ k. AreExtremes R gs (l'.0, l.1) (g'.0, g.1) k) e.4 moved)), less_alike l.0 g.0 l'.0 g'.0 s.1 e.0 e.2)
 
-  -- what equal groups share holds of each group of both lists
+  -- a property that equal groups share holds of each group of a list if it holds of each of an
+  -- equal list
   all_equal : (P : G → Type 0) → ((x y : G) → R x y ≡ Equal → P x → P y) → (xs ys : List G) → AllZip (λ x y. R x y ≡ Equal) xs ys → AllByRecursion P xs → AllByRecursion P ys
   all_equal P turns [] [] equal all = tt
   all_equal P turns [] (y ∷ ys) equal all = absurd equal

@@ -9,11 +9,11 @@ use Rattle.bptree_arguments.specs.declared.group.GroupCount.TheVariants.{Zero, O
 use Rattle.bptree_arguments.specs.declared.group.Ends.{Ends}
 
 module _ {G : Type 0} (cmp : G → G → Ordering) where
-  -- how many of the groups are equal to g
+  -- the number of groups that are equal to g
   abbrev pub group_size : G → List G → ℕ
   group_size g groups = length (filter (λ x. is_eq (cmp x g)) groups)
 
-  -- how many different groups there are
+  -- the number of different groups
   abbrev pub different : List G → ℕ
   different [] = 0
   different (x ∷ xs) = cond (list_any (λ y. is_eq (cmp x y)) xs) 0 1 + different xs
@@ -33,37 +33,37 @@ module _ {G : Type 0} (cmp : G → G → Ordering) where
     pub greatest_there : 0 < greatest.1
     pub count_is : count ≡ different groups
 
-  -- what a `GroupCount` says of the groups of the keys, in order
+  -- the `GroupCount` is a summary of these groups, in order
   abbrev pub IsGroupSummary : GroupCount G → List G → Type 0
   IsGroupSummary Zero groups = groups ≡ []
   IsGroupSummary (One g n) groups = AreExtremes groups (g, n) (g, n) 1
   IsGroupSummary (Multiple least greatest count) groups = AreExtremes groups least greatest count × (cmp least.0 greatest.0 ≡ Less)
 
-  -- the same but for groups that are equal
+  -- the two summaries are equal up to equality of groups
   abbrev pub AreAlike : GroupCount G → GroupCount G → Type 0
   AreAlike Zero Zero = ⊤
   AreAlike (One g n) (One h m) = (cmp g h ≡ Equal) × (n ≡ m)
   AreAlike (Multiple l g n) (Multiple l' g' m) = (cmp l.0 l'.0 ≡ Equal) × (l.1 ≡ l'.1) × (cmp g.0 g'.0 ≡ Equal) × (g.1 ≡ g'.1) × (n ≡ m)
   AreAlike _ _ = ⊥
 
-  -- the greatest group with its size, or none where there is no group
+  -- the greatest group with its size, or `None` if there is no group
   abbrev pub IsGreatestGroup : List G → Option (G × ℕ) → Type 0
   IsGreatestGroup groups None = groups ≡ []
   IsGreatestGroup groups (Some greatest) = AllByRecursion (λ x. is_gt (cmp x greatest.0) ≡ false) groups × (greatest.1 ≡ group_size greatest.0 groups) × (0 < greatest.1)
 
-  -- of the groups that the summary stands for: which is the greatest, whether there is none, how many are different, and which
-  -- are the extremes
-  abbrev pub TellsGreatest : GroupCount G → Option (G × ℕ) → Type 0
-  TellsGreatest summary greatest = (groups : List G) → IsGroupSummary summary groups → IsGreatestGroup groups greatest
+  -- What a summary determines of the groups that it stands for: the greatest group, whether there
+  -- is no group, the number of different groups, and the extremes.
+  abbrev pub ReportsGreatest : GroupCount G → Option (G × ℕ) → Type 0
+  ReportsGreatest summary greatest = (groups : List G) → IsGroupSummary summary groups → IsGreatestGroup groups greatest
 
-  abbrev pub TellsIfNone : GroupCount G → Bool → Type 0
-  TellsIfNone summary none = (groups : List G) → IsGroupSummary summary groups → IsTrue none ↔ (groups ≡ [])
+  abbrev pub ReportsIfNone : GroupCount G → Bool → Type 0
+  ReportsIfNone summary none = (groups : List G) → IsGroupSummary summary groups → IsTrue none ↔ (groups ≡ [])
 
-  abbrev pub TellsDifferent : GroupCount G → ℕ → Type 0
-  TellsDifferent summary n = (groups : List G) → IsGroupSummary summary groups → n ≡ different groups
+  abbrev pub ReportsDifferent : GroupCount G → ℕ → Type 0
+  ReportsDifferent summary n = (groups : List G) → IsGroupSummary summary groups → n ≡ different groups
 
-  abbrev pub TellsEnds : GroupCount G → Option (Ends G) → Type 0
-  TellsEnds summary told = (groups : List G) → IsGroupSummary summary groups → MatchOption told (groups ≡ []) (λ ends. AreExtremes groups (ends.least.now, ends.least_size) (ends.greatest.now, ends.greatest_size) ends.group_count)
+  abbrev pub ReportsEnds : GroupCount G → Option (Ends G) → Type 0
+  ReportsEnds summary reported = (groups : List G) → IsGroupSummary summary groups → MatchOption reported (groups ≡ []) (λ ends. AreExtremes groups (ends.least.now, ends.least_size) (ends.greatest.now, ends.greatest_size) ends.group_count)
 
   -- a summary of some groups becomes one of these and of one more, which equals `next` and is not below them
   abbrev pub TakesNext : GroupCount G → G → GroupCount G → Type 0
@@ -73,32 +73,34 @@ module _ {G : Type 0} (cmp : G → G → Ordering) where
   abbrev pub AlikeSumUpSame : Type 0
   AlikeSumUpSame = (a b : GroupCount G) → (groups : List G) → AreAlike a b → IsGroupSummary a groups → IsGroupSummary b groups
 
-  -- a query is a group and a place in it: the place of that key, or none where the group has no such key
+  -- a query is a group and an index in it, which selects that key, or `None` if the group has no
+  -- such key
   abbrev pub SelectsInGroup : G → ℕ → List G → Option ℕ → Type 0
   SelectsInGroup g n groups None = group_size g groups ≤ n
   SelectsInGroup g n groups (Some j) = (j < length groups) × ((d : G) → cmp (get_or groups j d) g ≡ Equal) × (group_size g (take j groups) ≡ n)
 
--- where a pair is not above another, neither is its first
+-- if a pair is not above another, neither is its first component
 pub first_not_above : (r s : Ordering) → is_gt (ordering_then r s) ≡ false → is_gt r ≡ false
 first_not_above Less s h = refl
 first_not_above Equal s h = refl
 first_not_above Greater s h = h
 
--- the extremes of a list of groups, lent
+-- the ends, which are borrowed, are the extremes of a list of groups
 abbrev pub AreEnds : {G : Type 0} → (G → G → Ordering) → List G → Ends G → Type 0
 AreEnds cmp groups ends = AreExtremes cmp groups (ends.least.now, ends.least_size) (ends.greatest.now, ends.greatest_size) ends.group_count
 
 module _ {G : Type 0} (cmp : G → G → Ordering) where
-  -- the extremes of two lists, one after the other, are those of both together
+  -- `both` is the extremes of two lists, one after the other, that have the extremes `first` and
+  -- `second`
   abbrev pub EndsOfBoth : Ends G → Ends G → Ends G → Type 0
   EndsOfBoth first second both = (xs ys : List G) → AreEnds cmp xs first → AreEnds cmp ys second → IsNonDescending cmp (xs ++ ys) → length (xs ++ ys) < 2 ^ 64 → AreEnds cmp (xs ++ ys) both
 
-  -- a summary of the groups that these are the extremes of
+  -- the summary is one of each list of groups that has these ends as its extremes
   abbrev pub SumsUpEnds : Ends G → GroupCount G → Type 0
   SumsUpEnds ends summary = (groups : List G) → AreEnds cmp groups ends → IsGroupSummary cmp summary groups
 
 module _ {K G : Type 0} (cmp : G → G → Ordering) (group_of : K → G) where
-  -- a summary of the groups of the keys
+  -- the summary is one of the groups of the keys
   abbrev pub SumsUpGroups : GroupCount G → List K → Type 0
   SumsUpGroups summary keys = IsGroupSummary cmp summary (map group_of keys)
 
@@ -114,6 +116,7 @@ module _ {K G : Type 0} (cmp : G → G → Ordering) (group_of : K → G) where
   abbrev pub SizeCountsKeys : Type 0
   SizeCountsKeys = (g : G) → (keys : List K) → group_size cmp g (map group_of keys) ≡ length (group g keys)
 
-  -- the keys of a group of two lists, one after the other, are those of the first and then those of the second
+  -- the keys of a group in two lists, one after the other, are those of the first and then those of
+  -- the second
   abbrev pub GroupOfBoth : Type 0
   GroupOfBoth = (g : G) → (front back : List K) → group g (front ++ back) ≡ group g front ++ group g back

@@ -1,5 +1,5 @@
 pub mod CountLaws
-pub mod GroupAnswers
+pub mod GroupResults
 pub mod GroupClones
 pub mod GroupSizes
 pub mod GroupSums

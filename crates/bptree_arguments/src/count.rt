@@ -1,12 +1,12 @@
-//! Counts of keys: a tree that keeps them finds a key by its place, and ranks a key among all.
+//! Counts of keys: a tree with these summaries finds a key by its index, and ranks a key among all.
 ghost use Rattle.std.specs.Prelude.{◌≡◌, ◌<◌, ◌≤◌, ◌+◌, ◌-◌, ◌^◌, length, min, is_ok, Some, IfOk, IfErr, IfSome, IsOk, ⊤};
 ghost use Rattle.std.specs.List.{sum_by};
 ghost use Rattle.std.proofs.Common.{rules};
-ghost use Rattle.bptree_arguments.specs.CountLaws.{SelectsPlace, count_below, CountsAtSlot, CountsKeys, Counted, sum_counts};
+ghost use Rattle.bptree_arguments.specs.CountLaws.{SelectsIndex, count_below, CountsAtSlot, CountsKeys, Counted, sum_counts};
 ghost use Rattle.bptree_arguments.specs.Ranks.{IsSlotIn, Carries};
 ghost use Rattle.bptree_arguments.specs.Replaced.{SumsUpReplaced};
-ghost use Rattle.bptree_arguments.specs.Selection.{IsPlaceIn};
-ghost use Rattle.bptree_arguments.specs.Sums.{SumsUpKeys, SumsUpPieces, TellsLength};
+ghost use Rattle.bptree_arguments.specs.Selection.{IsIndexBelow};
+ghost use Rattle.bptree_arguments.specs.Sums.{SumsUpKeys, SumsUpPieces, ReportsLength};
 ghost use Rattle.bptree_keys.specs.Pieces.{ArePieces};
 ghost use Rattle.bptree_arguments.specs.GroupSums.{capped_sum};
 
@@ -19,7 +19,7 @@ use std::alloc::AllocError;
 pub struct Count(usize);
 
 impl Count {
-    /// The number of keys, in constant time.
+    /// Returns the number of keys.
     ///
     /// O(1). It allocates nothing and cannot fail.
     pub fn count(&self) -> usize
@@ -29,20 +29,23 @@ impl Count {
     }
 }
 
-// As many numbers, each below `SMALL`, add up to less than two to the power of 64: here a start,
-// and fewer counts.
+// `FEW` numbers, each below `SMALL`, have a sum below two to the power of 64: a start, and fewer
+// than `FEW` counts.
 const FEW: usize = 128;
 
-// The least number that isn't small.
+// The least number that is not small.
 const SMALL: usize = 1 << 57;
 
-// So many counts are added one after another: what loads some of them at a time likely waits for
-// the one that was written last.
+// Up to this many counts are added one at a time: a load of several counts at once may have to wait
+// for the store of the one that was written last.
 const ALONE: usize = 16;
 
-/// The counts added to a number, or the greatest `usize` where that is less. Where there are more
-/// than a few, and the bits of all tell that they are small, they are added without a look at each
-/// sum, and so some at a time. Else they are added one after another.
+/// Returns the sum of a number and the counts, or the greatest `usize` if the sum is greater. If
+/// there are more than `ALONE` counts but fewer than `FEW`, and their bits show that all are small,
+/// no addition is checked for overflow, so that several can be added at a time. Otherwise the
+/// counts are added one after another.
+///
+/// O(c) for c counts. It allocates nothing and cannot fail.
 pub fn total_of(start: usize, arguments: &[Count]) -> usize
     ensures { result ≡ min (start + sum_by (λ b. b.0) arguments.now) (2 ^ 64 - 1) }
 {
@@ -60,8 +63,8 @@ pub fn total_of(start: usize, arguments: &[Count]) -> usize
     capped_total_of(start, arguments)
 }
 
-// The same for counts of any size: a step is one addition, and the first sum that doesn't fit ends
-// it.
+// Returns the same sum for counts of any size. Each step is one addition, and the loop ends at the
+// first sum that does not fit.
 fn capped_total_of(start: usize, arguments: &[Count]) -> usize
     ensures { result ≡ min (start + sum_by (λ b. b.0) arguments.now) (2 ^ 64 - 1) }
 {
@@ -75,7 +78,7 @@ fn capped_total_of(start: usize, arguments: &[Count]) -> usize
     total
 }
 
-/// The number of keys, exact. No memory is asked for, so nothing fails.
+/// The summary is the exact number of keys. No call allocates, so no call fails.
 impl<K: Key> Argument<K> for Count {
     ghost is_summary = { λ a keys. a.0 ≡ length keys };
 
@@ -88,23 +91,23 @@ impl<K: Key> Argument<K> for Count {
     fn from_leaf(keys: &[K]) -> Result<Count, AllocError>
         ensures summary { IfOk result (SumsUpKeys CountsKeys K.cmp keys.now) }
         ensures exact { IfOk result (λ a. a.0 ≡ length keys.now) }
-        ensures sure { IsOk result }
+        ensures infallible { IsOk result }
     {
         Ok(Count(keys.len()))
     }
 
-    /// The sum of the counts, in one step a child. It stops at the greatest `usize`, which no list
-    /// of keys is longer than. The separators don't count.
+    /// Returns the sum of the counts, in one step per child. The sum stops at the greatest `usize`,
+    /// and no list of keys is longer than that. The separators are not counted.
     fn from_inner(_keys: &[K], arguments: &[Count]) -> Result<Count, AllocError>
         ensures summary { IfOk result (SumsUpPieces CountsKeys K.cmp arguments.now) }
         ensures capped { IfOk result (λ a. a.0 ≡ min (sum_counts arguments.now) (2 ^ 64 - 1)) }
-        ensures sure { IsOk result }
+        ensures infallible { IsOk result }
     {
         Ok(Count(total_of(0, arguments)))
     }
 
-    /// The node's count less the child's old one and with its new one, in constant time; none where
-    /// that is no count.
+    /// Returns the node's count minus the child's old one plus its new one, in constant time, or
+    /// `None` if that is no count.
     fn from_replaced(node: &Count, old: &Count, new: &Count) -> Option<Count>
         ensures replaced { IfSome result (SumsUpReplaced CountsKeys K.cmp node.now old.now new.now) }
         ensures exact { IfSome result (λ a. a.0 + old.now.0 ≡ node.now.0 + new.now.0) }
@@ -115,9 +118,9 @@ impl<K: Key> Argument<K> for Count {
         }
     }
 
-    /// The count, in constant time.
+    /// Returns the count, in constant time.
     fn key_count(&self) -> Option<usize>
-        ensures told { TellsLength {K = K} (CountsKeys self.now) result }
+        ensures reported { ReportsLength {K = K} (CountsKeys self.now) result }
         ensures all { result ≡ Some self.now.0 }
     {
         Some(self.0)
@@ -133,18 +136,19 @@ impl<K: Key> CloneArgument<K> for Count {
     ghost clone_is_summary = { λ a b keys copies same equal counted. ap (λ c. c.0) same ∙ (counted ∙ length_all_zip _ keys copies equal) };
 }
 
-/// A query is a place: it selects the key there, or none past the end.
+/// A query is an index: it selects the key at that index, or `None` past the end.
 impl<K: Key> SearchArgument<K> for Count {
     type Query = usize;
 
-    ghost selects = { SelectsPlace };
+    ghost selects = { SelectsIndex };
 
-    /// The place itself if a key is there, in constant time.
+    /// Returns the query itself if there is a key at that index, and otherwise `None`, in constant
+    /// time.
     fn locate_in_leaf(query: usize, keys: &[K]) -> Result<Option<usize>, AllocError>
         requires { length keys.now ≤ 64 }
-        ensures in_range { IfOk result (IsPlaceIn keys.now) }
-        ensures selected { IfOk result (SelectsPlace query keys.now) }
-        ensures sure { IsOk result }
+        ensures in_range { IfOk result (IsIndexBelow keys.now) }
+        ensures selected { IfOk result (SelectsIndex query keys.now) }
+        ensures infallible { IsOk result }
     {
         if query < keys.len() {
             Ok(Some(query))
@@ -153,7 +157,8 @@ impl<K: Key> SearchArgument<K> for Count {
         }
     }
 
-    /// The child in which the place lies, and the place there. At most one step a child.
+    /// Returns the child in which the index lies, and the index within that child, in at most one
+    /// step per child.
     fn locate_in_inner(
         query: usize,
         _keys: &[K],
@@ -174,7 +179,7 @@ impl<K: Key> SearchArgument<K> for Count {
 impl<K: Key> RankArgument<K> for Count {
     type Rank = usize;
 
-    ghost stands_for = { λ rank _ before. rank ≡ length before };
+    ghost represents = { λ rank _ before. rank ≡ length before };
 
     ghost ranks = { λ k keys rank. rank ≡ count_below K.cmp k keys };
 
@@ -182,11 +187,11 @@ impl<K: Key> RankArgument<K> for Count {
         0
     }
 
-    /// One step a child.
+    /// Adds the counts to the rank, in one step per child.
     fn fold_inner(_k: &K, rank: usize, arguments: &[Count]) -> Result<usize, AllocError>
         ensures carries { IfOk result (Carries CountsKeys K.cmp arguments.now Counted rank _k.now) }
         ensures capped { IfOk result (λ next. next ≡ capped_sum rank (sum_counts arguments.now)) }
-        ensures sure { IsOk result }
+        ensures infallible { IsOk result }
     {
         Ok(total_of(rank, arguments))
     }
@@ -199,11 +204,11 @@ impl<K: Key> RankArgument<K> for Count {
     ) -> Result<Result<usize, usize>, AllocError>
         requires few { length _keys.now ≤ 64 }
         requires slot { IsSlotIn _keys.now slot }
-        ensures variant { IfOk result (λ answer. is_ok answer ≡ is_ok slot) }
+        ensures variant { IfOk result (λ outcome. is_ok outcome ≡ is_ok slot) }
         ensures ranked { IfOk result (CountsAtSlot K.cmp _k.now rank _keys.now slot) }
-        ensures sure { IsOk result }
+        ensures infallible { IsOk result }
 
-        // The same of a key that is present, and of one that is not.
+        // The exact result for a key that is present, and for one that is absent.
         ensures present { IfOk slot (λ i. IfOk result (λ a. a ≡ Ok (capped_sum rank i))) }
         ensures absent { IfErr slot (λ i. IfOk result (λ a. a ≡ Err (capped_sum rank i))) }
     {

@@ -1,8 +1,8 @@
-//! Groups of keys, and how many keys each has.
+//! Groups of keys, and the number of keys in each.
 ghost use Rattle.std.specs.Prelude.{◌≡◌, ◌≢◌, ℕ, ◌+◌, ◌-◌, ◌<◌, ◌^◌, min, [], map, IfOk, true, false};
 ghost use Rattle.std.specs.Ordering.{is_gt};
-ghost use Rattle.bptree_arguments.specs.GroupSums.{greatest_of, has_no_group, number_of_groups, shared, summary_of, told_by, told_by_ends, AreToldInTurn, summary_of_all};
-ghost use Rattle.bptree_arguments.specs.Groups.{IsGroupSummary, AreAlike, different, group, AlikeSumUpSame, EndsOfBoth, GroupOfBoth, SizeCountsKeys, SumsUpEnds, SumsUpGroups, TakesNext, TellsDifferent, TellsEnds, TellsGreatest, TellsIfNone};
+ghost use Rattle.bptree_arguments.specs.GroupSums.{greatest_of, has_no_group, number_of_groups, shared, summary_of, summary_of_group, summary_of_ends, AreCombined, summary_of_all};
+ghost use Rattle.bptree_arguments.specs.Groups.{IsGroupSummary, AreAlike, different, group, AlikeSumUpSame, EndsOfBoth, GroupOfBoth, SizeCountsKeys, SumsUpEnds, SumsUpGroups, TakesNext, ReportsDifferent, ReportsEnds, ReportsGreatest, ReportsIfNone};
 ghost use Rattle.std.specs.Option.{option_map};
 ghost use Rattle.bptree_arguments.specs.declared.group.GroupCount.TheVariants.{Zero};
 ghost use Rattle.bptree_arguments.specs.Sums.{SumsUpKeys, SumsUpPieces};
@@ -16,12 +16,12 @@ pub use bptree_keys::key::Tuple2;
 use std::alloc::AllocError;
 use std::cmp::Ordering;
 
-/// A group that is made of a key.
+/// A group that is made from a key.
 pub trait FromRef<T: Ord>: Ord {
     /// The group of a key, up to equality.
     ghost group_of: { T → Self };
 
-    /// The group of a key.
+    /// Returns the group of a key.
     ///
     /// O(1) and one clone, for `Tuple2`. It fails only if an allocation fails.
     fn from_ref(input: &T) -> Result<Self, AllocError>
@@ -43,17 +43,17 @@ impl<T1: Key, T2: Key> FromRef<(T1, T2)> for Tuple2<T1> {
     ghost keeps_order = { λ x y h. first_not_above (T1.cmp x.0 y.0) (T2.cmp x.1 y.1) h };
 }
 
-/// A law of groups: it does nothing, its contract is the law. The size of a group is the number of
-/// its keys. The keys of a group of two lists, one after the other, are those of the first and then
-/// those of the second. A clone of a summary is a summary of the same groups.
+/// States laws of groups in its contract; the body does nothing. The size of a group is the number
+/// of its keys. The keys of a group in two lists, one after the other, are those of the first list,
+/// followed by those of the second. A clone of a summary is a summary of the same groups.
 pub fn laws_of_groups<K: Key, G: FromRef<K> + Key>()
     ensures size { SizeCountsKeys G.cmp G.group_of }
     ensures append { GroupOfBoth G.cmp G.group_of }
     ensures clones { AlikeSumUpSame G.cmp }
 {}
 
-/// The groups of a list of keys: none, one with its size, or the least and the greatest with their
-/// sizes and the number of groups. The default has none.
+/// The groups of a list of keys: no group, one group with its size, or the least and the greatest
+/// group with their sizes and the number of groups. The default has no group.
 #[derive(Debug, Drop)]
 pub enum GroupCount<G> {
     Zero,
@@ -100,11 +100,11 @@ impl<G: Key> Clone for GroupCount<G> {
 }
 
 impl<G: Key> GroupCount<G> {
-    /// The greatest group, with its size, in constant time.
+    /// Returns the greatest group with its size, or `None` if there is no group.
     ///
     /// O(1). It allocates nothing and cannot fail.
     pub fn max_group(&self) -> Option<(&G, usize)>
-        ensures greatest { TellsGreatest G.cmp self.now (option_map (λ r. (r.0.now, r.1)) result) }
+        ensures greatest { ReportsGreatest G.cmp self.now (option_map (λ r. (r.0.now, r.1)) result) }
         ensures exact { option_map (λ r. (r.0.now, r.1)) result ≡ greatest_of self.now }
     {
         match self {
@@ -114,11 +114,11 @@ impl<G: Key> GroupCount<G> {
         }
     }
 
-    /// Whether there is no group, in constant time.
+    /// Returns `true` if there is no group.
     ///
     /// O(1). It allocates nothing and cannot fail.
     pub fn is_zero(&self) -> bool
-        ensures none { TellsIfNone G.cmp self.now result }
+        ensures none { ReportsIfNone G.cmp self.now result }
         ensures exact { result ≡ has_no_group self.now }
     {
         match self {
@@ -127,11 +127,11 @@ impl<G: Key> GroupCount<G> {
         }
     }
 
-    /// The number of different groups, in constant time.
+    /// Returns the number of different groups.
     ///
     /// O(1). It allocates nothing and cannot fail.
     pub fn group_count(&self) -> usize
-        ensures different { TellsDifferent G.cmp self.now result }
+        ensures different { ReportsDifferent G.cmp self.now result }
         ensures exact { result ≡ number_of_groups self.now }
     {
         match self {
@@ -141,7 +141,7 @@ impl<G: Key> GroupCount<G> {
         }
     }
 
-    /// The summary after one more group, which is not below the others.
+    /// Returns the summary after one more group, which is not below the others.
     fn with_next(self, next: G) -> GroupCount<G>
         ensures { TakesNext G.cmp self next result }
     {
@@ -177,10 +177,10 @@ impl<G: Key> GroupCount<G> {
         }
     }
 
-    /// The least and the greatest group, if there is one.
+    /// Returns the least and the greatest group, or `None` if there is no group.
     pub(crate) fn ends(&self) -> Option<Ends<'_, G>>
-        ensures ends { TellsEnds G.cmp self.now result }
-        ensures told { option_map (λ ends. told_by_ends ends) result ≡ told_by self.now }
+        ensures ends { ReportsEnds G.cmp self.now result }
+        ensures reported { option_map (λ ends. summary_of_ends ends) result ≡ summary_of_group self.now }
     {
         match self {
             GroupCount::Zero => None,
@@ -216,7 +216,8 @@ pub(crate) struct Ends<'a, G> {
     pub(crate) group_count: usize,
 }
 
-// The size of a group at an end, of which the neighbour has a share where it is the only group.
+// Returns the size of a group at an end of a list. If it is the only group, the share that the
+// neighbouring list has of it is added.
 fn with_share(size: usize, group_count: usize, share: usize) -> usize
     ensures only { group_count ≡ 1 → result ≡ min (size + share) (2 ^ 64 - 1) }
     ensures of_several { group_count ≢ 1 → result ≡ size }
@@ -230,10 +231,10 @@ fn with_share(size: usize, group_count: usize, share: usize) -> usize
 }
 
 impl<'a, G: Key> Ends<'a, G> {
-    /// The ends of two lists, one after the other.
+    /// Returns the ends of two lists, one after the other.
     fn followed_by(self, next: Ends<'a, G>) -> Ends<'a, G>
         ensures ends { EndsOfBoth G.cmp self.entry next.entry result }
-        ensures told { AreToldInTurn G.cmp self.entry next.entry result }
+        ensures reported { AreCombined G.cmp self.entry next.entry result }
     {
         let total = self.group_count.saturating_add(next.group_count);
         match self.greatest.cmp(next.least) {
@@ -254,10 +255,10 @@ impl<'a, G: Key> Ends<'a, G> {
         }
     }
 
-    /// A summary of its own, with clones of the groups.
+    /// Returns an owned summary, with clones of the groups.
     fn to_summary(self) -> Result<GroupCount<G>, AllocError>
         ensures summary { IfOk result (SumsUpEnds G.cmp self.entry) }
-        ensures told { IfOk result (AreAlike G.cmp (summary_of (Some (told_by_ends self.entry)))) }
+        ensures reported { IfOk result (AreAlike G.cmp (summary_of (Some (summary_of_ends self.entry)))) }
     {
         let least = self.least.clone()?;
         if self.group_count == 1 {
@@ -276,8 +277,8 @@ impl<'a, G: Key> Ends<'a, G> {
 impl<K: Key, G: FromRef<K> + Key> Argument<K> for GroupCount<G> {
     ghost is_summary = { λ a keys. IsGroupSummary G.cmp a (map G.group_of keys) };
 
-    /// Where the first and the last key have equal groups, these two groups alone are made of keys.
-    /// Else one is made of each key, and none is cloned.
+    /// If the first and the last key have equal groups, only these two groups are made. Otherwise
+    /// one group is made from each key, and no group is cloned.
     fn from_leaf(keys: &[K]) -> Result<Self, AllocError>
         ensures summary { IfOk result (SumsUpKeys (SumsUpGroups G.cmp G.group_of) K.cmp keys.now) }
         ensures empty { keys.now ≡ [] → result ≡ Ok Zero }
@@ -297,12 +298,12 @@ impl<K: Key, G: FromRef<K> + Key> Argument<K> for GroupCount<G> {
         Ok(summary.with_next(last))
     }
 
-    /// One comparison a child, and at most two clones of groups. Each sum of sizes and of groups
-    /// stops at the greatest `usize`, which no list of keys is longer than.
+    /// Makes one comparison per child, and at most two clones of groups. Each sum of sizes and of
+    /// groups stops at the greatest `usize`, and no list of keys is longer than that.
     fn from_inner(_keys: &[K], arguments: &[Self]) -> Result<Self, AllocError>
         ensures summary { IfOk result (SumsUpPieces (SumsUpGroups G.cmp G.group_of) K.cmp arguments.now) }
         ensures empty { arguments.now ≡ [] → result ≡ Ok Zero }
-        ensures told { IfOk result (AreAlike G.cmp (summary_of_all G.cmp arguments.now)) }
+        ensures reported { IfOk result (AreAlike G.cmp (summary_of_all G.cmp arguments.now)) }
     {
         let mut whole: Option<Ends<'_, G>> = None;
         for argument in arguments {
@@ -322,8 +323,9 @@ impl<K: Key, G: FromRef<K> + Key> Argument<K> for GroupCount<G> {
         }
     }
 
-    /// The size of the only group, or 0 if there is none, in constant time. Of several groups it
-    /// tells nothing, since those between the least and the greatest have no sizes here.
+    /// Returns the size of the only group, or 0 if there is no group, in constant time. If there
+    /// are several groups, it returns `None`: the sizes of those between the least and the greatest
+    /// are not stored.
     fn key_count(&self) -> Option<usize> {
         match self {
             GroupCount::Zero => Some(0),

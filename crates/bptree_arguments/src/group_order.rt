@@ -1,6 +1,6 @@
-//! Where a group begins and where it ends among keys.
+//! The indexes at which a group begins and ends among keys.
 ghost use Rattle.std.specs.Prelude.{◌≡◌, ◌≤◌, length, IfOk};
-ghost use Rattle.bptree_arguments.specs.GroupAnswers.{is_before, HasGroupBorder};
+ghost use Rattle.bptree_arguments.specs.GroupResults.{is_before, HasGroupBorder};
 ghost use Rattle.bptree_keys.specs.Ends.{is_back};
 
 use crate::group::FromRef;
@@ -9,8 +9,8 @@ use bptree_keys::key::Key;
 use std::alloc::AllocError;
 use std::cmp::Ordering;
 
-// Whether a key is before an end of a group, by how its own group compares to that group. A key of
-// the group is before the back.
+// Returns whether a key is before an end of a group, by how its own group compares to that group. A
+// key of the group is before the back.
 fn is_before(order: Ordering, end: End) -> bool
     ensures { result ≡ is_before (is_back end) order }
 {
@@ -21,11 +21,11 @@ fn is_before(order: Ordering, end: End) -> bool
     }
 }
 
-/// The number of ascending keys before an end of a group: `Front` counts the keys of smaller groups,
-/// and `Back` those of the group too.
+/// Returns the number of ascending keys before an end of a group: `Front` counts the keys of
+/// smaller groups, and `Back` those of the group too.
 ///
-/// It is a binary search, which makes the groups of at most 7 of 64 keys. It allocates what these
-/// groups do, and fails only if one of them does.
+/// O(log k) for k keys: a binary search, which makes the groups of at most 7 of 64 keys. It
+/// allocates what these groups do, and fails only if making one of them fails.
 pub fn keys_before<K: Key, G: FromRef<K> + Key>(
     keys: &[K],
     group: &G,

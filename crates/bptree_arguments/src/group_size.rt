@@ -1,7 +1,7 @@
 //! The visitor that counts the keys of one group.
 ghost use Rattle.std.specs.Prelude.{◌≡◌, map};
 ghost use Rattle.std.specs.Map.{keys_of};
-ghost use Rattle.bptree_arguments.specs.GroupSizes.{IsSizeAnswer};
+ghost use Rattle.bptree_arguments.specs.GroupSizes.{IsSizeResult};
 
 use crate::group::{FromRef, GroupCount};
 use crate::group_order::keys_before;
@@ -12,7 +12,8 @@ use std::alloc::AllocError;
 use std::cmp::Ordering;
 use std::marker::{Model, PhantomData};
 
-/// Counts the keys of one group. It returns 0 if there is none, and stops at the greatest `usize`.
+/// Counts the keys of one group. The result is 0 if there is no such key, and stops at the greatest
+/// `usize`.
 #[derive(Drop)]
 pub struct ExtractGroupSize<G, K> {
     group: G,
@@ -29,7 +30,7 @@ impl<G, K> Model for ExtractGroupSize<G, K> {
 }
 
 impl<G, K> ExtractGroupSize<G, K> {
-    /// A visitor that has counted no key yet.
+    /// Returns a visitor that has counted no key yet.
     ///
     /// O(1). It allocates nothing and cannot fail.
     pub fn new(group: G) -> Self
@@ -47,10 +48,10 @@ impl<G, K> ExtractGroupSize<G, K> {
 impl<K: Key, V, G: FromRef<K> + Key> DescendVisit<K, V, GroupCount<G>> for ExtractGroupSize<G, K> {
     type Result = usize;
 
-    ghost answers = { λ v pairs answer. IsSizeAnswer G.cmp v (map G.group_of (keys_of pairs)) answer };
+    ghost outcomes = { λ v pairs outcome. IsSizeResult G.cmp v (map G.group_of (keys_of pairs)) outcome };
 
-    /// One comparison a child up to the group, and one more there. It goes down only into a child
-    /// that has keys on both sides of the group's beginning.
+    /// Makes one comparison per child up to the group, and one more there. The descent continues
+    /// only into a child that has keys on both sides of the group's beginning.
     fn visit_inner(
         &mut self,
         _keys: &[K],
@@ -81,7 +82,7 @@ impl<K: Key, V, G: FromRef<K> + Key> DescendVisit<K, V, GroupCount<G>> for Extra
         Ok(DescendVisitResult::Complete(counted))
     }
 
-    /// Two binary searches, for where the group begins and where it ends.
+    /// Makes two binary searches, one for the beginning of the group and one for its end.
     fn visit_leaf(&mut self, keys: &[K], _values: &[V]) -> Result<Option<usize>, AllocError> {
         let start = keys_before(keys, &self.group, End::Front)?;
         let size = keys_before(&keys[start..], &self.group, End::Back)?;

@@ -4,5 +4,6 @@ pub mod RankSlotLemmas
 pub mod RankWayLemmas
 pub mod SelectLemmas
 pub mod SlotLemmas
+pub mod SpanLemmas
 pub mod Split
 pub mod WayLemmas

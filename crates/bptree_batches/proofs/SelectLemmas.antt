@@ -1,4 +1,5 @@
--- Descents by indexes that go side by side in a tree with counts: each step down, and what was found so far.
+-- Interleaved descents by indexes in a tree with counts: each level, and the pairs that were found
+-- so far.
 use Rattle.std.proofs.Common.{◌≡◌, ℕ, zero, suc, ◌+◌, ◌-◌, ◌^◌, ◌<◌, ◌≤◌, List, [], ◌∷◌, ◌++◌, length, take, drop, get_or, slice_set, map, refl, sym, ap, subst, ◌∙◌, arith, Option, Some, IfSome, IsSome, ◌↔◌, slice_get}
 use borrow.Rule.Slice.PartMut.{put_mid}
 use Rattle.std.specs.declared.cmp.Ordering.{Ordering}
@@ -14,9 +15,9 @@ use Rattle.std.proofs.lemmas.Option.{slice_get_within}
 use Rattle.bptree_arguments.specs.CountLaws.{CountsKeys, sum_counts}
 use Rattle.bptree_arguments.specs.declared.count.Count.{Count}
 use Rattle.bptree_arguments.proofs.CountLemmas.{sum_by-lengths}
-use Rattle.bptree_descents.specs.ByArgument.{IsSubtree}
-use Rattle.bptree_descents.proofs.Child.{tree_below}
-use Rattle.bptree_descents.proofs.Summed.{are_pieces, down, get_early, get_past, summaries, whole}
+use Rattle.bptree_search.specs.ByArgument.{IsSubtree}
+use Rattle.bptree_search.proofs.Child.{tree_below}
+use Rattle.bptree_search.proofs.Summed.{are_pieces, down, get_early, get_past, summaries, whole}
 use Rattle.bptree_keys.specs.declared.node_id.InnerNodeId.{InnerNodeId}
 use Rattle.bptree_keys.specs.declared.node_id.LeafNodeId.{LeafNodeId}
 use Rattle.bptree_keys.specs.declared.node_id.NodeId.{NodeId}
@@ -24,15 +25,15 @@ use Rattle.bptree_keys.specs.declared.node_id.NodeId.TheVariants as kind
 use Rattle.bptree_nodes.specs.Inner.{Inner}
 use Rattle.bptree_nodes.specs.Leaf.{Leaf}
 use Rattle.bptree_nodes.specs.Slot.{Slot, Slots, Present}
-use Rattle.bptree_shape.specs.Order.{flat}
-use Rattle.bptree_shape.specs.Shape.{leaf_pairs, pairs_at}
-use Rattle.bptree_shape.proofs.Ends.{shown}
-use Rattle.bptree_shape.proofs.NodePieces.{keys_each}
-use Rattle.bptree_batches.specs.Each.{answer_each}
-use Rattle.bptree_batches.specs.SelectWays.{IsPlaceOf, IsSelectWay}
-use Rattle.bptree_batches.proofs.EachLemmas.{answered_more, mapped_group_more, all_answered}
+use Rattle.bptree_invariant.specs.Order.{flat}
+use Rattle.bptree_invariant.specs.Shape.{leaf_pairs, pairs_at}
+use Rattle.bptree_invariant.proofs.Ends.{shown}
+use Rattle.bptree_invariant.proofs.NodePieces.{keys_each}
+use Rattle.bptree_batches.specs.Each.{result_each}
+use Rattle.bptree_batches.specs.SelectWays.{IsChildIndexOf, IsSelectWay}
+use Rattle.bptree_batches.proofs.EachLemmas.{returned_more, mapped_group_more, all_returned}
 
--- four counts more
+-- the sum with four more counts
 pub four_more : (counts : List Count) (i : ℕ) (d : Count) → i + 4 ≤ length counts
     → sum_counts (take (i + 4) counts) ≡ sum_counts (take i counts) + ((get_or counts i d).0 + (get_or counts (i + 1) d).0 + ((get_or counts (i + 2) d).0 + (get_or counts (i + 3) d).0))
 four_more counts i d within =
@@ -47,7 +48,8 @@ four_more counts i d within =
     omega arith
 
 module _ {C K V : Type 0} (f : C → List (K × V)) where
-  -- what is left of an index finds in the part at its place what the index finds in the whole
+  -- the pair at what is left of an index, in the part that was reached, is the pair at the index in
+  -- the whole
   found_along : (counts : List Count) (cs : List C) (i rest : ℕ) (c : C) → AllZip CountsKeys counts (keys_each f cs) → slice_get cs i ≡ Some c → (suc i < length counts → rest + sum_counts (take i counts) < sum_counts (take (suc i) counts))
       → slice_get (f c) rest ≡ slice_get (flat f cs) (rest + sum_counts (take i counts))
   found_along counts [] i rest c zip read ends = cc
@@ -68,9 +70,9 @@ module _ {C K V : Type 0} (f : C → List (K × V)) where
       ∙ (sym (get_past (f b) (flat f cs) (rest + sum_counts (take i counts))) ∙ ap (slice_get (f b ++ flat f cs)) moved)
 
 module _ {K V : Type 0} {cmp : K → K → Ordering} (total : IsTotalOrder cmp) (slots : Slots (Inner K Count) (Leaf K V)) where
-  -- one step down
+  -- one level of a descent
   pub select_to_child : (h : ℕ) (id : NodeId) (inner : InnerNodeId) (node : Inner K Count) (counts : List Count) (index : ℕ) (way : ℕ × ℕ) (child : NodeId) → id ≡ kind.Inner inner → IsSubtree cmp CountsKeys slots h id
-      → slots.inner inner.0 ≡ Present node → counts ≡ node.arguments → IsPlaceOf counts index way → slice_get node.children way.0 ≡ Some child → IsSelectWay cmp slots h id (h - 1) index (child, way.1)
+      → slots.inner inner.0 ≡ Present node → counts ≡ node.arguments → IsChildIndexOf counts index way → slice_get node.children way.0 ≡ Some child → IsSelectWay cmp slots h id (h - 1) index (child, way.1)
   select_to_child h id inner node counts index way child is s e are at read =
       record {
         subtree = tree_below total CountsKeys slots h id inner node s is e way.0 child (slice_get_within node.children way.0 child read) read;
@@ -78,26 +80,26 @@ module _ {K V : Type 0} {cmp : K → K → Ordering} (total : IsTotalOrder cmp) 
       }
     where
       at_height : (h : ℕ) → IsSubtree cmp CountsKeys slots h (kind.Inner inner) → slice_get (pairs_at slots (h - 1) child) way.1 ≡ slice_get (pairs_at slots h (kind.Inner inner)) index
-      at_height zero s = absurd s.stands.tree
+      at_height zero s = absurd s.stored.tree
       at_height (suc h) s =
           let zip = subst (λ l. AllZip CountsKeys l (keys_each (pairs_at slots h) node.children)) (sym are) (summaries total CountsKeys slots h inner node s e) in
           let ends : suc way.0 < length counts → way.1 + sum_counts (take way.0 counts) < sum_counts (take (suc way.0) counts) = λ later. let one : suc way.0 ≡ way.0 + 1 = omega arith in rw (at.passed.left, one) (at.ends (omega (arith, later))) in
           rw (down total CountsKeys slots h, whole total CountsKeys slots h inner node s e, ← at.passed.left) (found_along (pairs_at slots h) counts node.children way.0 way.1 child zip read ends)
 
-  -- the counts of a node are together below 2 ^ 64
+  -- the sum of the counts of a node is below 2 ^ 64
   pub counts_fit : (h : ℕ) (id : NodeId) (inner : InnerNodeId) (node : Inner K Count) (counts : List Count) → id ≡ kind.Inner inner → IsSubtree cmp CountsKeys slots h id → slots.inner inner.0 ≡ Present node → counts ≡ node.arguments → sum_counts counts < 2 ^ 64
   counts_fit h id inner node counts is s e are = rw are (at_height h (rw is at s))
     where
       at_height : (h : ℕ) → IsSubtree cmp CountsKeys slots h (kind.Inner inner) → sum_counts node.arguments < 2 ^ 64
-      at_height zero s = absurd s.stands.tree
+      at_height zero s = absurd s.stored.tree
       at_height (suc h) s =
           omega (arith, sum_by-lengths (λ (x : Count). x.0) node.arguments (keys_each (pairs_at slots h) node.children) (summaries total CountsKeys slots h inner node s e), (are_pieces total CountsKeys slots h inner node s e).fits)
 
-  -- the way from a node on a way
+  -- a descent that continues another one
   pub select_on : (top : ℕ) (root : NodeId) (h m : ℕ) (index : ℕ) (way next : NodeId × ℕ) → IsSelectWay cmp slots top root h index way → IsSelectWay cmp slots h way.0 m way.1 next → IsSelectWay cmp slots top root m index next
   select_on top root h m index way next first second = record { subtree = second.subtree; leads = second.leads ∙ first.leads }
 
--- what a leaf that was read lends at an index
+-- the pair that a leaf that was read returns at an index
 pub pair_in_leaf : {K V A : Type 0} (slots : Slots (Inner K A) (Leaf K V)) (id : NodeId) (leaf : LeafNodeId) (node : Leaf K V) (index : ℕ) (found : Option (Bor K × Bor V)) → id ≡ kind.Leaf leaf → slots.leaf leaf.0 ≡ Present node
     → IfSome found (λ p. slice_get node.pairs index ≡ Some (p.0.now, p.1.now)) → IsSome found ↔ (index < length node.pairs) → option_map deref_pair found ≡ slice_get (pairs_at slots 0 id) index
 pair_in_leaf {K} {V} slots id leaf node index found is e value variant =
@@ -115,18 +117,18 @@ module _ {X Y : Type 0} (g : X → Y) where
       let rest = drop k (drop i xs) in
       rw (map-append g (take i xs) (ys ++ rest), map-append g ys rest, ← take-map g i xs, ← drop-map g k (drop i xs), ← drop-map g i xs) refl
 
-  -- one answer more, of answers that are compared by what they show
-  pub shown_more : {K : Type 0} (f : K → Y) (keys : List K) (olds now : List X) (i : ℕ) (k : K) (x : X) → map g now ≡ answer_each (λ k old. f k) (take i keys) (map g olds) → i < length keys → length olds ≡ length keys → g x ≡ f (get_or keys i k)
-      → map g (slice_set now i x) ≡ answer_each (λ k old. f k) (take (i + 1) keys) (map g olds)
-  shown_more f keys olds now i k x so_far within long answer =
-      map-slice_set now i x ∙ answered_more (λ k old. f k) keys (map g olds) (map g now) i k (g x) so_far within (length-map olds g ∙ long) (λ old. answer)
+  -- one more result, for results that are compared under a map
+  pub shown_more : {K : Type 0} (f : K → Y) (keys : List K) (olds now : List X) (i : ℕ) (k : K) (x : X) → map g now ≡ result_each (λ k old. f k) (take i keys) (map g olds) → i < length keys → length olds ≡ length keys → g x ≡ f (get_or keys i k)
+      → map g (slice_set now i x) ≡ result_each (λ k old. f k) (take (i + 1) keys) (map g olds)
+  shown_more f keys olds now i k x so_far within long outcome =
+      map-slice_set now i x ∙ returned_more (λ k old. f k) keys (map g olds) (map g now) i k (g x) so_far within (length-map olds g ∙ long) (λ old. outcome)
 
-  -- the answers of one group more
-  pub shown_group_more : {K : Type 0} (f : K → Y) (keys : List K) (olds now part : List X) (i k j : ℕ) → map g now ≡ answer_each (λ k old. f k) (take i keys) (map g olds) → i + k ≡ j → j ≤ length keys → length olds ≡ length keys → length now ≡ length keys
-      → map g part ≡ map f (take k (drop i keys)) → map g (put_mid i k now part) ≡ answer_each (λ k old. f k) (take j keys) (map g olds)
-  shown_group_more f keys olds now part i k j so_far end within long same answers =
-      map-put_mid i k now part ∙ mapped_group_more f keys (map g olds) (map g now) (map g part) i k j so_far end within (length-map olds g ∙ long) (length-map now g ∙ same) answers
+  -- the results of one more group
+  pub shown_group_more : {K : Type 0} (f : K → Y) (keys : List K) (olds now part : List X) (i k j : ℕ) → map g now ≡ result_each (λ k old. f k) (take i keys) (map g olds) → i + k ≡ j → j ≤ length keys → length olds ≡ length keys → length now ≡ length keys
+      → map g part ≡ map f (take k (drop i keys)) → map g (put_mid i k now part) ≡ result_each (λ k old. f k) (take j keys) (map g olds)
+  shown_group_more f keys olds now part i k j so_far end within long same outcomes =
+      map-put_mid i k now part ∙ mapped_group_more f keys (map g olds) (map g now) (map g part) i k j so_far end within (length-map olds g ∙ long) (length-map now g ∙ same) outcomes
 
-  -- the answers of all keys
-  pub all_shown : {K : Type 0} (f : K → Y) (keys : List K) (olds now : List X) (n : ℕ) → map g now ≡ answer_each (λ k old. f k) (take n keys) (map g olds) → length keys ≤ n → length olds ≡ length keys → map g now ≡ map f keys
-  all_shown f keys olds now n so_far end same = all_answered f keys (map g olds) (map g now) n so_far end (length-map olds g ∙ same)
+  -- the results of all keys
+  pub all_shown : {K : Type 0} (f : K → Y) (keys : List K) (olds now : List X) (n : ℕ) → map g now ≡ result_each (λ k old. f k) (take n keys) (map g olds) → length keys ≤ n → length olds ≡ length keys → map g now ≡ map f keys
+  all_shown f keys olds now n so_far end same = all_returned f keys (map g olds) (map g now) n so_far end (length-map olds g ∙ same)

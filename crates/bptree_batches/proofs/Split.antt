@@ -1,4 +1,4 @@
--- What holds of the members of two lists at the first indices, and what at the later ones.
+-- Properties of the members of two lists at the first indexes, and at the later ones.
 use Rattle.std.proofs.Common.{◌≡◌, ℕ, zero, suc, ◌+◌, ◌<◌, ◌≤◌, List, [], ◌∷◌, length, get_or, slice_set, refl, arith, add-one}
 use Rattle.std.specs.List.{AllZip}
 use Rattle.bptree_batches.specs.Ways.{AllSplit}
@@ -35,15 +35,15 @@ module _ {X Y : Type 0} (P Q : X → Y → Type 0) where
   set_next zero (a ∷ xs) (b ∷ ys) y within all new = (new a, all.1)
   set_next (suc n) (a ∷ xs) (b ∷ ys) y within all new = (all.0, set_next n xs ys y (omega arith) all.1 new)
 
-  -- one index more, of a member that fits every one of the first list
+  -- one more index, at a member for which P holds with each member of the first list
   pub split_set : (n : ℕ) (xs : List X) (ys : List Y) (y : Y) → n < length xs → AllSplit P Q n xs ys → ((x : X) → P x y) → AllSplit P Q (n + 1) xs (slice_set ys n y)
   split_set n xs ys y within all new = rw add-one (set_next n xs ys y within all new)
 
-  -- one index more
+  -- one more index
   pub split_more : (n : ℕ) (xs : List X) (ys : List Y) (x : X) (y : Y) → n < length xs → AllSplit P Q n xs ys → P (get_or xs n x) y → AllSplit P Q (n + 1) xs (slice_set ys n y)
   split_more n xs ys x y within all new = rw add-one (split_next n xs ys x y within all new)
 
--- nothing is asked of the later ones
+-- if nothing is required of the later indexes, any two lists of one length split at index 0
 pub split_start : {X Y : Type 0} (P : X → Y → Type 0) (xs : List X) (ys : List Y) → length ys ≡ length xs → AllSplit P (λ x y. Unit {0}) 0 xs ys
 split_start P [] [] same = tt
 split_start P [] (y ∷ ys) same = absurd (omega (arith, same))

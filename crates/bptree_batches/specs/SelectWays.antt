@@ -1,4 +1,4 @@
--- Where the descents of many indexes are in a tree with counts.
+-- The states of the descents of many indexes in a tree with counts.
 use Rattle.std.specs.Prelude.{◌≡◌, ℕ, ◌+◌, ◌<◌, List, Option, length, map, take, slice_get}
 use Rattle.std.specs.Borrow.{Bor}
 use Rattle.std.specs.declared.cmp.Ordering.{Ordering}
@@ -7,34 +7,35 @@ use Rattle.std.specs.Option.{option_map}
 use Rattle.bptree_arguments.specs.CountLaws.{CountsKeys, sum_counts}
 use Rattle.bptree_arguments.specs.declared.count.Count.{Count}
 use Rattle.bptree_batches.specs.Each.{pairs_each}
-use Rattle.bptree_descents.specs.ByArgument.{IsSubtree}
+use Rattle.bptree_search.specs.ByArgument.{IsSubtree}
 use Rattle.bptree_keys.specs.declared.node_id.NodeId.{NodeId}
 use Rattle.bptree_nodes.specs.Inner.{Inner}
 use Rattle.bptree_nodes.specs.Leaf.{Leaf}
 use Rattle.bptree_nodes.specs.Slot.{Slots}
-use Rattle.bptree_shape.specs.Shape.{pairs_at}
+use Rattle.bptree_invariant.specs.Shape.{pairs_at}
 
--- an index is so far past the parts before a place, of parts with these counts, and a part is at the place
+-- the index is what is left of it plus the counts of the parts before the one that was reached
 pub record ArePassed (counts : List Count) (index : ℕ) (way : ℕ × ℕ) : Type 0 where
   pub within : way.0 < length counts
   pub left : way.1 + sum_counts (take way.0 counts) ≡ index
 
--- and the index is in that part, where it is not the last one
-pub record IsPlaceOf (counts : List Count) (index : ℕ) (way : ℕ × ℕ) : Type 0 where
+-- the index is in the part that was reached, if that is not the last part
+pub record IsChildIndexOf (counts : List Count) (index : ℕ) (way : ℕ × ℕ) : Type 0 where
   pub passed : ArePassed counts index way
   pub ends : way.0 + 1 < length counts → index < sum_counts (take (way.0 + 1) counts)
 
 module _ {K V : Type 0} (slots : Slots (Inner K Count) (Leaf K V)) (height : ℕ) (root : NodeId) where
-  -- the pair at an index below the root, or none past the last pair
+  -- the pair at an index below the root, or `None` past the last pair
   abbrev pub IsPairAt : ℕ → Option (Bor K × Bor V) → Type 0
   IsPairAt index found = option_map deref_pair found ≡ slice_get (pairs_at slots height root) index
 
-  -- the pair at each index below the root, or none past the last pair
+  -- the pair at each index below the root, or `None` past the last pair
   abbrev pub ArePairsAt : List ℕ → List (Option (Bor K × Bor V)) → Type 0
   ArePairsAt indexes found = map (option_map deref_pair) found ≡ pairs_each (pairs_at slots height root) indexes
 
 module _ {K V : Type 0} (cmp : K → K → Ordering) (slots : Slots (Inner K Count) (Leaf K V)) where
-  -- the node is a tree of a height, and the pair at the index below it is the pair at an index below the root
+  -- the node is the root of a tree of a height, and the pair at the index in that tree is the pair
+  -- at an index in the whole tree
   pub record IsSelectWay (top : ℕ) (root : NodeId) (h : ℕ) (index : ℕ) (way : NodeId × ℕ) : Type 0 where
     pub subtree : IsSubtree cmp CountsKeys slots h way.0
     pub leads : slice_get (pairs_at slots h way.0) way.1 ≡ slice_get (pairs_at slots top root) index

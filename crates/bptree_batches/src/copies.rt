@@ -1,15 +1,16 @@
-//! Copies of the values at many keys.
+//! Copies of the values of many keys.
 ghost use Rattle.std.specs.Prelude.{◌≡◌, ◌≤◌, length};
 ghost use Rattle.bptree_batches.specs.Each.{mark_each, read_each};
-ghost use Rattle.bptree_shape.specs.Shape.{pairs_at, IsWellShaped};
+ghost use Rattle.bptree_invariant.specs.Shape.{pairs_at, IsWellShaped};
 
 use crate::finds::find_group;
 use crate::groups::GROUP;
 use bptree_keys::node_id::NodeId;
 use bptree_stores::node_stores::NodeStore;
 
-// Writes for each of at most 16 keys the value at it, where it is there, and `hit` if it is and `miss`
-// if not. Where a key is absent, its value is left as it is.
+// Writes the value of each of at most 16 keys to `values`, and leaves the value of an absent key
+// unchanged. Writes `hit` to `marks` for each key that is present, and `miss` for each that is
+// absent.
 fn copy_group<S: NodeStore, M: Copy>(
     store: &S,
     root: NodeId,
@@ -45,11 +46,12 @@ where
     }
 }
 
-/// Writes for each key the value at it, where it is there, and `hit` to `marks` if it is and `miss` if
-/// not, in the tree of a height below `root`. Where a key is absent, its value is left as it is.
+/// In the tree of a height below `root`, reads the value of each key into `values`, and leaves the
+/// value of an absent key unchanged. Writes `hit` to `marks` for each key that is present, and
+/// `miss` for each that is absent. The store's cache is not changed.
 ///
-/// O(k log n) for k keys, in groups of 16 whose descents go side by side. It leaves the store's
-/// cache alone, does not allocate and never fails.
+/// O(k log n) for k keys, in groups of 16 whose descents are interleaved. It allocates nothing and
+/// cannot fail.
 pub(crate) fn copy_groups<S: NodeStore, M: Copy>(
     store: &S,
     root: NodeId,

@@ -1,17 +1,17 @@
-//! Values at a few keys, by reference.
+//! Values of many keys, by reference.
 ghost use Rattle.std.specs.Prelude.{◌≡◌, ◌≤◌, length, map};
 ghost use Rattle.std.specs.Option.{option_copied};
 ghost use Rattle.bptree_batches.specs.Each.{mark_each, values_each};
 ghost use Rattle.bptree_batches.specs.Slots.{IsSlotWithin, ReadsSlot};
 ghost use Rattle.bptree_batches.specs.Ways.{IsLeafThere};
-ghost use Rattle.bptree_shape.specs.Shape.{pairs_at, IsWellShaped};
+ghost use Rattle.bptree_invariant.specs.Shape.{pairs_at, IsWellShaped};
 
 use crate::groups::{GROUP, descend_group};
 use crate::leaves::locate_group;
 use bptree_keys::node_id::NodeId;
 use bptree_stores::node_stores::NodeStore;
 
-// The value in a slot of the leaf under a number, or `None` for a key that has no slot.
+// Returns the value in a slot of the leaf at a node id, or `None` for a key that has no slot.
 #[inline(always)]
 fn value_at<'a, S: NodeStore>(
     store: &'a S,
@@ -29,7 +29,7 @@ fn value_at<'a, S: NodeStore>(
     Some(leaf.data_at(slot).1)
 }
 
-// Writes a reference to the value at each of at most 16 keys, or `None` where the key is absent.
+// Writes a reference to the value of each of at most 16 keys, or `None` if the key is absent.
 pub(crate) fn find_group<'a, S: NodeStore>(
     store: &'a S,
     root: NodeId,
@@ -47,7 +47,7 @@ pub(crate) fn find_group<'a, S: NodeStore>(
     descend_group(store, root, height, keys, nodes);
     let mut slots = [Err(0); GROUP];
     let slots = &mut slots[..keys.len()];
-    locate_group(store, nodes, keys, slots);
+    locate_group(store, height, nodes, keys, slots);
     let mut at = 0;
     'keys: while at < keys.len() {
         found[at] = value_at(store, nodes[at], slots[at]);
@@ -55,11 +55,11 @@ pub(crate) fn find_group<'a, S: NodeStore>(
     }
 }
 
-/// Writes a reference to the value at each key to `found`, at the key's index, or `None` where the
-/// key is absent, in the tree of a height below `root`.
+/// Writes a reference to the value of each key to `found`, at the key's index, or `None` if the key
+/// is absent, in the tree of a height below `root`. The store's cache is not changed.
 ///
-/// O(k log n) for k keys, in groups of 16 whose descents go side by side. It leaves the store's
-/// cache alone, does not allocate and never fails.
+/// O(k log n) for k keys, in groups of 16 whose descents are interleaved. It allocates nothing and
+/// cannot fail.
 pub(crate) fn find_groups<'a, S: NodeStore>(
     store: &'a S,
     root: NodeId,
@@ -79,7 +79,7 @@ pub(crate) fn find_groups<'a, S: NodeStore>(
     }
 }
 
-// Writes for each of at most 16 keys `hit` if it is there, and `miss` if not.
+// Writes `hit` for each of at most 16 keys that is present, and `miss` for each that is absent.
 fn mark_group<S: NodeStore, M: Copy>(
     store: &S,
     root: NodeId,
@@ -104,8 +104,10 @@ fn mark_group<S: NodeStore, M: Copy>(
     }
 }
 
-/// Writes `hit` to `marks` for each key that is there, and `miss` for each that is not, at the key's
-/// index, in the tree of a height below `root`. It costs what `find_groups` does.
+/// Writes `hit` to `marks` for each key that is present, and `miss` for each that is absent, at the
+/// key's index, in the tree of a height below `root`.
+///
+/// The cost, allocation and failure are as for `find_groups`.
 pub(crate) fn mark_groups<S: NodeStore, M: Copy>(
     store: &S,
     root: NodeId,

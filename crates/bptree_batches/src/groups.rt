@@ -1,18 +1,18 @@
-//! Groups of a few keys, whose descents of a tree in a store go level by level.
+//! Groups of a few keys, whose descents of a tree in a store proceed level by level.
 ghost use Rattle.std.specs.Prelude.{◌≡◌, ◌-◌, ◌<◌, length};
 ghost use Rattle.bptree_batches.specs.Ways.{AreLeavesFor, IsOnWay};
-ghost use Rattle.bptree_shape.specs.Leaves.{Stands};
+ghost use Rattle.bptree_invariant.specs.Leaves.{IsStored};
 
 use bptree_keys::node_id::NodeId;
 use bptree_stores::node_stores::NodeStore;
 
-/// The greatest number of keys of a group.
+/// The greatest number of keys in a group.
 pub(crate) const GROUP: usize = 16;
 
-// The child of an inner node that may hold a key, in the tree of a height below the node.
+// Returns the child of an inner node that may hold a key, in the tree of a height below the node.
 #[inline(always)]
 fn child_for<S: NodeStore>(store: &S, id: NodeId, height: usize, key: &S::K) -> NodeId
-    requires stands { Stands S.K.cmp (S.slots store.now) height id }
+    requires stored { IsStored S.K.cmp (S.slots store.now) height id }
     requires above { 0 < height }
     ensures { IsOnWay S.K.cmp (S.slots store.now) height id (height - 1) key.now result }
 {
@@ -22,8 +22,10 @@ fn child_for<S: NodeStore>(store: &S, id: NodeId, height: usize, key: &S::K) -> 
 }
 
 /// Writes for each key the leaf that it belongs to, in the tree of a height below `root`. All keys
-/// go down one level, and then all of them the next. O(k log n) for k keys: at most 7 comparisons a
-/// key and level. It does not allocate and never fails.
+/// descend one level, and then all of them the next.
+///
+/// O(k log n) for k keys: at most 7 comparisons per key and level. It allocates nothing and cannot
+/// fail.
 pub(crate) fn descend_group<S: NodeStore>(
     store: &S,
     root: NodeId,
@@ -31,7 +33,7 @@ pub(crate) fn descend_group<S: NodeStore>(
     keys: &[S::K],
     nodes: &mut [NodeId],
 )
-    requires stands { Stands S.K.cmp (S.slots store.now) height root }
+    requires stored { IsStored S.K.cmp (S.slots store.now) height root }
     requires nodes { length nodes.old ≡ length keys.now }
     ensures { AreLeavesFor S.K.cmp (S.slots store.now) height root keys.now nodes.new }
 {

@@ -1,5 +1,5 @@
-//! Look-ups of many keys at once: 16 keys descend side by side, so that the processor waits for all
-//! their nodes at once.
+//! Look-ups of many keys at once: the descents of 16 keys are interleaved, so that the processor
+//! waits for all their nodes at once.
 #![tactic(auto)]
 
 mod copies;

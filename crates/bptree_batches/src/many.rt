@@ -1,7 +1,7 @@
-//! Reads of many keys of a tree at once. Groups of 16 keys go down the tree side by side, so that
-//! the processor waits for the nodes of all of them at once: in a large tree this costs about half
-//! of a look-up for each key. Each call leaves the store's cache alone, does not allocate and never
-//! fails.
+//! Reads of many keys of a tree at once. The descents of 16 keys are interleaved, so that the
+//! processor waits for the nodes of all of them at once: in a large tree this costs about half of a
+//! look-up for each key. Each call leaves the store's cache unchanged, allocates nothing and cannot
+//! fail.
 ghost use Rattle.std.specs.Prelude.{◌≡◌, ◌<◌, ◌^◌, length, map};
 ghost use Rattle.std.specs.Map.Iter.{deref_pair};
 ghost use Rattle.std.specs.Option.{option_copied, option_map};
@@ -15,14 +15,17 @@ use crate::ranks::rank_groups;
 use crate::selected::copy_index_group;
 use crate::selects::select_groups;
 use bptree_arguments::count::Count;
+use bptree_invariant::nodes::Nodes;
 use bptree_keys::key::Key;
-use bptree_shape::nodes::Nodes;
 use bptree_stores::node_store_vec::NodeStoreVec;
 use bptree_stores::node_stores::NodeStore;
 
-/// Writes a reference to the value at each key to `found`, at the key's index, or `None` where the
-/// key is absent. `found` has the length of `keys`. The keys come in any order, and a key may come
-/// more than once. O(k log n) for k keys: at most 7 comparisons a key and node.
+/// Writes a reference to the value of each key to `found`, at the key's index, or `None` if the key
+/// is absent. `found` has the length of `keys`. The keys may be in any order, and a key may occur
+/// more than once.
+///
+/// O(k log n) for k keys: at most 7 comparisons per key and node. It allocates nothing and cannot
+/// fail.
 pub fn get_many<'a, S: NodeStore>(tree: &'a Nodes<S>, keys: &[S::K], found: &mut [Option<&'a S::V>])
     requires { length found.old ≡ length keys.now }
     ensures { map option_copied found.new ≡ values_each S.K.cmp tree.now.contents keys.now }
@@ -31,8 +34,10 @@ pub fn get_many<'a, S: NodeStore>(tree: &'a Nodes<S>, keys: &[S::K], found: &mut
     find_groups(&tree.store, tree.root, tree.height, keys, found);
 }
 
-/// Writes `hit` to `marks` for each key that is there, and `miss` for each that is not, at the key's
-/// index. It costs what `get_many` does.
+/// Writes `hit` to `marks` for each key that is present, and `miss` for each that is absent, at the
+/// key's index.
+///
+/// The cost, allocation and failure are as for `get_many`.
 pub fn mark_many<S: NodeStore, M: Copy>(
     tree: &Nodes<S>,
     keys: &[S::K],
@@ -47,9 +52,10 @@ pub fn mark_many<S: NodeStore, M: Copy>(
     mark_groups(&tree.store, tree.root, tree.height, keys, marks, hit, miss);
 }
 
-/// Writes a copy of the value at each key to `values`, at the key's index, and to `marks` what
-/// `mark_many` writes. Where a key is absent, its value is left as it is. It costs what `get_many`
-/// does.
+/// Writes a copy of the value of each key to `values`, at the key's index, and to `marks` what
+/// `mark_many` writes. The value of an absent key is left unchanged.
+///
+/// The cost, allocation and failure are as for `get_many`.
 pub fn copy_many<S: NodeStore, M: Copy>(
     tree: &Nodes<S>,
     keys: &[S::K],
@@ -79,7 +85,9 @@ where
 }
 
 /// Writes the number of smaller keys for each given key to `ranks`, at the key's index. `ranks` has
-/// the length of `keys`. It costs what `get_many` does, and reads the counts on the way.
+/// the length of `keys`.
+///
+/// The cost, allocation and failure are as for `get_many`; the descents read the counts too.
 pub fn rank_many<K: Key, V: Drop>(
     tree: &Nodes<NodeStoreVec<K, V, Count>>,
     keys: &[K],
@@ -95,8 +103,9 @@ pub fn rank_many<K: Key, V: Drop>(
 }
 
 /// Writes references to the pair at each index in the order of the keys to `found`, or `None` past
-/// the last pair. `found` has the length of `indexes`. The indexes come in any order. O(k log n) for
-/// k indexes.
+/// the last pair. `found` has the length of `indexes`. The indexes may be in any order.
+///
+/// O(k log n) for k indexes. It allocates nothing and cannot fail.
 pub fn get_index_many<'a, K: Key, V: Drop>(
     tree: &'a Nodes<NodeStoreVec<K, V, Count>>,
     indexes: &[usize],
@@ -109,9 +118,10 @@ pub fn get_index_many<'a, K: Key, V: Drop>(
     select_groups(&tree.store, tree.root, tree.height, indexes, found);
 }
 
-/// Writes copies of the key and the value at each index, where there is a pair, and to `marks` `hit`
-/// if there is one and `miss` if not. Past the last pair, key and value are left as they are. It
-/// costs what `get_index_many` does.
+/// Writes copies of the key and the value at each index, and leaves both unchanged past the last
+/// pair. Writes `hit` to `marks` if there is a pair at the index, and `miss` if there is no pair.
+///
+/// The cost, allocation and failure are as for `get_index_many`.
 pub fn copy_index_many<K: Key + Copy, V: Copy + Drop, M: Copy>(
     tree: &Nodes<NodeStoreVec<K, V, Count>>,
     indexes: &[usize],

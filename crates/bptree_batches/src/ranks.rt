@@ -1,13 +1,13 @@
-//! Ranks of groups of a few keys, whose descents of a tree with counts go level by level.
+//! Ranks of groups of a few keys, whose descents of a tree with counts proceed level by level.
 ghost use Rattle.std.specs.Prelude.{◌≡◌, ◌-◌, ◌<◌, ◌≤◌, ℕ, List, Ok, length, map};
 ghost use Rattle.std.specs.List.{AllZip};
 ghost use Rattle.bptree_arguments.specs.CountLaws.{Counted, CountsAtSlot, CountsKeys};
 ghost use Rattle.bptree_arguments.specs.Ranks.{Carries};
 ghost use Rattle.bptree_batches.specs.Each.{ranked_each};
 ghost use Rattle.bptree_batches.specs.RankWays.{IsRankWay, RanksBelow};
-ghost use Rattle.bptree_batches.specs.Slots.{IsSlotIn};
-ghost use Rattle.bptree_descents.specs.ByArgument.{IsSubtree};
-ghost use Rattle.bptree_shape.specs.Shape.{pairs_at};
+ghost use Rattle.bptree_batches.specs.Slots.{IsSlotOfLeaf};
+ghost use Rattle.bptree_search.specs.ByArgument.{IsSubtree};
+ghost use Rattle.bptree_invariant.specs.Shape.{pairs_at};
 
 use crate::groups::GROUP;
 use crate::leaves::locate_group;
@@ -16,14 +16,16 @@ use bptree_keys::key::Key;
 use bptree_keys::node_id::NodeId;
 use bptree_stores::node_stores::NodeStore;
 
-// The rank of a key, by the keys before the subtree and the counts of the children before its own.
+// Returns the rank of a key, computed from the number of keys before the subtree and the counts of
+// the children before the key's own.
 fn passed<K: Key>(before: usize, counts: &[Count]) -> usize
     ensures { (k : K) → Carries CountsKeys K.cmp counts.now Counted before k result }
 {
     total_of(before, counts)
 }
 
-// The rank of a key, from the keys before the leaf and its slot there.
+// Returns the rank of a key, computed from the number of keys before the leaf and the key's slot
+// there.
 fn ranked<K: Key>(before: usize, slot: Result<usize, usize>) -> usize
     ensures { (k : K) (keys : List K) → CountsAtSlot K.cmp k before keys slot (Ok result) }
 {
@@ -33,8 +35,9 @@ fn ranked<K: Key>(before: usize, slot: Result<usize, usize>) -> usize
     }
 }
 
-// The child of an inner node that may hold a key, in the tree of a height below the node, and how
-// many keys are before the child: those before the node, and those of the children between.
+// Returns the child of an inner node that may hold a key, in the tree of a height below the node,
+// and the number of keys before the child: those before the node, and those of the node's children
+// before this one.
 #[inline(always)]
 fn rank_child<S: NodeStore<Argument = Count>>(
     store: &S,
@@ -48,12 +51,15 @@ fn rank_child<S: NodeStore<Argument = Count>>(
 {
     let (id, before) = way;
     let node = store.get_inner(id.inner_id_unchecked());
-    let (place, child) = node.locate_child(key);
-    (child, passed::<S::K>(before, &node.arguments()[..place]))
+    let (child_index, child) = node.locate_child(key);
+    (
+        child,
+        passed::<S::K>(before, &node.arguments()[..child_index]),
+    )
 }
 
-// Writes for each key the leaf that it belongs to, in the tree of a height below `root`, and how
-// many keys are before that leaf. All keys go down one level, and then all of them the next.
+// Writes for each key the leaf that it belongs to, in the tree of a height below `root`, and the
+// number of keys before that leaf. All keys descend one level, and then all of them the next.
 fn descend_ranks<S: NodeStore<Argument = Count>>(
     store: &S,
     root: NodeId,
@@ -81,7 +87,7 @@ fn descend_ranks<S: NodeStore<Argument = Count>>(
     }
 }
 
-// Writes the node of each way.
+// Writes the node that each descent has reached.
 fn nodes_of(ways: &[(NodeId, usize)], nodes: &mut [NodeId])
     requires { length nodes.old ≡ length ways.now }
     ensures { nodes.new ≡ map (λ (way : NodeId × ℕ). way.0) ways.now }
@@ -93,7 +99,7 @@ fn nodes_of(ways: &[(NodeId, usize)], nodes: &mut [NodeId])
     }
 }
 
-// The rank of a key, from its way and where it is in the leaf.
+// Returns the rank of a key, computed from the result of its descent and its slot in the leaf.
 #[inline(always)]
 fn rank_in_leaf<S: NodeStore<Argument = Count>>(
     store: &S,
@@ -102,13 +108,13 @@ fn rank_in_leaf<S: NodeStore<Argument = Count>>(
     slot: Result<usize, usize>,
 ) -> usize
     requires subtree { IsSubtree S.K.cmp CountsKeys (S.slots store.now) 0 way.0 }
-    requires slot { IsSlotIn S.K.cmp (S.slots store.now) way.0 key.now slot }
+    requires slot { IsSlotOfLeaf S.K.cmp (S.slots store.now) way.0 key.now slot }
     ensures { RanksBelow S.K.cmp (S.slots store.now) 0 way.0 key.now way.1 result }
 {
     ranked::<S::K>(way.1, slot)
 }
 
-// Writes for each of at most 16 keys how many keys of the tree are smaller.
+// Writes for each of at most 16 keys the number of keys of the tree that are smaller.
 fn rank_group<S: NodeStore<Argument = Count>>(
     store: &S,
     root: NodeId,
@@ -129,7 +135,7 @@ fn rank_group<S: NodeStore<Argument = Count>>(
     nodes_of(ways, nodes);
     let mut slots = [Err(0); GROUP];
     let slots = &mut slots[..keys.len()];
-    locate_group(store, nodes, keys, slots);
+    locate_group(store, height, nodes, keys, slots);
     let mut at = 0;
     'keys: while at < keys.len() {
         ranks[at] = rank_in_leaf(store, ways[at], &keys[at], slots[at]);
@@ -137,10 +143,10 @@ fn rank_group<S: NodeStore<Argument = Count>>(
     }
 }
 
-/// Writes for each key how many keys are smaller, of the tree of a height below `root`.
+/// Writes for each key the number of keys that are smaller, in the tree of a height below `root`.
 ///
-/// O(k log n) for k keys, in groups of 16 whose descents go side by side. It does not allocate and
-/// never fails.
+/// O(k log n) for k keys, in groups of 16 whose descents are interleaved. It allocates nothing and
+/// cannot fail.
 pub(crate) fn rank_groups<S: NodeStore<Argument = Count>>(
     store: &S,
     root: NodeId,

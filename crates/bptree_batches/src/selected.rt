@@ -5,12 +5,13 @@ ghost use Rattle.bptree_batches.specs.Each.{keys_at_each, mark_at_each, values_a
 use crate::groups::GROUP;
 use crate::many::get_index_many;
 use bptree_arguments::count::Count;
+use bptree_invariant::nodes::Nodes;
 use bptree_keys::key::Key;
-use bptree_shape::nodes::Nodes;
 use bptree_stores::node_store_vec::NodeStoreVec;
 
-// Writes for each of at most 16 indexes the key and the value there, and `hit` if there is a pair and
-// `miss` if not. Past the last pair, key and value are left as they are.
+// Writes the key and the value at each of at most 16 indexes, and leaves both unchanged past the
+// last pair. Writes `hit` to `marks` if there is a pair at the index, and `miss` if there is no
+// pair.
 pub(crate) fn copy_index_group<K: Key + Copy, V: Copy + Drop, M: Copy>(
     tree: &Nodes<NodeStoreVec<K, V, Count>>,
     indexes: &[usize],

@@ -1,30 +1,30 @@
-//! Pairs at many indexes of a tree with counts, whose descents go level by level.
+//! Pairs at many indexes of a tree with counts; the descents proceed level by level.
 ghost use Rattle.std.specs.Prelude.{◌≡◌, ◌+◌, ◌-◌, ◌^◌, ◌<◌, ◌≤◌, length, take};
 ghost use Rattle.std.specs.List.{AllZip};
 ghost use Rattle.bptree_arguments.specs.CountLaws.{CountsKeys, sum_counts};
-ghost use Rattle.bptree_batches.specs.SelectWays.{ArePairsAt, ArePassed, IsPairAt, IsPlaceOf, IsSelectWay};
-ghost use Rattle.bptree_descents.specs.ByArgument.{IsSubtree};
+ghost use Rattle.bptree_batches.specs.SelectWays.{ArePairsAt, ArePassed, IsPairAt, IsChildIndexOf, IsSelectWay};
+ghost use Rattle.bptree_search.specs.ByArgument.{IsSubtree};
 
 use crate::groups::GROUP;
 use bptree_arguments::count::Count;
 use bptree_keys::node_id::NodeId;
 use bptree_stores::node_stores::NodeStore;
 
-// How many pairs are below four children from a place on.
+// Returns the number of pairs below four children, from a child index on.
 #[inline(always)]
-fn sum_of_four(counts: &[Count], place: usize) -> usize
-    requires within { place + 4 ≤ length counts.now }
+fn sum_of_four(counts: &[Count], child_index: usize) -> usize
+    requires within { child_index + 4 ≤ length counts.now }
     requires fits { sum_counts counts.now < 2 ^ 64 }
-    ensures { result + sum_counts (take place counts.now) ≡ sum_counts (take (place + 4) counts.now) }
+    ensures { result + sum_counts (take child_index counts.now) ≡ sum_counts (take (child_index + 4) counts.now) }
 {
-    let front = counts[place].count() + counts[place + 1].count();
-    let back = counts[place + 2].count() + counts[place + 3].count();
+    let front = counts[child_index].count() + counts[child_index + 1].count();
+    let back = counts[child_index + 2].count() + counts[child_index + 3].count();
     front + back
 }
 
-// How many children are passed on the way to an index, four at a time, and what is left of the index.
-// One test for four children, and not one for each, lets the processor come sooner to the nodes of
-// the next indexes.
+// Returns the number of children that are passed before an index, four at a time, and what is left
+// of the index. One test for four children, and not one for each, lets the processor reach the
+// nodes of the next indexes sooner.
 #[inline(always)]
 fn pass_fours(index: usize, counts: &[Count]) -> (usize, usize)
     requires some { 0 < length counts.now }
@@ -33,42 +33,42 @@ fn pass_fours(index: usize, counts: &[Count]) -> (usize, usize)
 {
     let last = counts.len() - 1;
     let mut rest = index;
-    let mut place = 0;
-    'fours: while last - place >= 4 {
-        let four = sum_of_four(counts, place);
+    let mut child_index = 0;
+    'fours: while last - child_index >= 4 {
+        let four = sum_of_four(counts, child_index);
         if rest < four {
-            return (place, rest);
+            return (child_index, rest);
         }
         rest -= four;
-        place += 4;
+        child_index += 4;
     }
-    (place, rest)
+    (child_index, rest)
 }
 
-// The place of the child that an index among the pairs below a node belongs to, and the index among
-// the pairs below the child, by the counts of the children. An index past the last pair belongs to
-// the last child.
+// Returns the index of the child that an index among the pairs below a node belongs to, and the
+// index among the pairs below the child, computed from the counts of the children. An index past
+// the last pair belongs to the last child.
 #[inline(always)]
-fn place_of(index: usize, counts: &[Count]) -> (usize, usize)
+fn index_of(index: usize, counts: &[Count]) -> (usize, usize)
     requires some { 0 < length counts.now }
     requires fits { sum_counts counts.now < 2 ^ 64 }
-    ensures { IsPlaceOf counts.now index result }
+    ensures { IsChildIndexOf counts.now index result }
 {
     let last = counts.len() - 1;
-    let (mut place, mut rest) = pass_fours(index, counts);
-    'counts: while place < last {
-        let count = counts[place].count();
+    let (mut child_index, mut rest) = pass_fours(index, counts);
+    'counts: while child_index < last {
+        let count = counts[child_index].count();
         if rest < count {
-            return (place, rest);
+            return (child_index, rest);
         }
         rest -= count;
-        place += 1;
+        child_index += 1;
     }
-    (place, rest)
+    (child_index, rest)
 }
 
-// The child of an inner node that an index belongs to, in the tree of a height below the node, and
-// the index among the pairs below the child.
+// Returns the child of an inner node that an index belongs to, in the tree of a height below the
+// node, and the index among the pairs below the child.
 #[inline(always)]
 fn select_child<S: NodeStore<Argument = Count>>(
     store: &S,
@@ -81,12 +81,12 @@ fn select_child<S: NodeStore<Argument = Count>>(
 {
     let (id, index) = way;
     let node = store.get_inner(id.inner_id_unchecked());
-    let (place, rest) = place_of(index, node.arguments());
-    (node.child_id(place), rest)
+    let (child_index, rest) = index_of(index, node.arguments());
+    (node.child_id(child_index), rest)
 }
 
 // Writes for each index the leaf that it belongs to, in the tree of a height below `root`, and the
-// index among the pairs of that leaf. All indexes go down one level, and then all of them the next.
+// index among the pairs of that leaf. All indexes descend one level, and then all of them the next.
 fn descend_selects<S: NodeStore<Argument = Count>>(
     store: &S,
     root: NodeId,
@@ -114,7 +114,7 @@ fn descend_selects<S: NodeStore<Argument = Count>>(
     }
 }
 
-// The pair at an index of a leaf, or `None` past its last pair.
+// Returns the pair at an index of a leaf, or `None` past its last pair.
 #[inline(always)]
 fn select_in_leaf<'a, S: NodeStore<Argument = Count>>(
     store: &'a S,
@@ -154,8 +154,8 @@ fn select_group<'a, S: NodeStore<Argument = Count>>(
 /// Writes references to the pair at each index in the order of the keys, or `None` past the last
 /// pair, in the tree of a height below `root`.
 ///
-/// O(k log n) for k indexes, in groups of 16 whose descents go side by side. It does not allocate
-/// and never fails.
+/// O(k log n) for k indexes, in groups of 16 whose descents are interleaved. It allocates nothing
+/// and cannot fail.
 pub(crate) fn select_groups<'a, S: NodeStore<Argument = Count>>(
     store: &'a S,
     root: NodeId,

@@ -3,17 +3,17 @@ use Rattle.std.proofs.Common.{◌≡◌, ◌∙◌, ◌+◌, ◌-◌, ◌<◌, �
 use Rattle.std.proofs.Math.Seq.{drop-append-add, take-append-add, take-append_seam}
 use Rattle.std.proofs.lemmas.Bool.Decides.{eqb_tells}
 use Rattle.std.specs.List.{AllByRecursion, slice_get}
-use Rattle.bptree_building.specs.Rooms.{pairs_under}
-use Rattle.bptree_building.proofs.LeafIds.{all_at, take_on}
-use Rattle.bptree_building.proofs.Standing.{drop_on}
+use Rattle.bptree_bulk_load.specs.Rooms.{pairs_under}
+use Rattle.bptree_bulk_load.proofs.LeafIds.{all_at, take_on}
+use Rattle.bptree_bulk_load.proofs.Standing.{drop_on}
 use Rattle.bptree_bulk.specs.Cut.{first_key, pairs_before, BeginsBorder, EndsBorder, IsCut, IsHalf}
 use Rattle.bptree_keys.specs.declared.node_id.LeafNodeId.{LeafNodeId}
 use Rattle.bptree_nodes.specs.Inner.{Inner}
 use Rattle.bptree_nodes.specs.Leaf.{Leaf}
 use Rattle.bptree_nodes.specs.Slot.{Slots}
-use Rattle.bptree_shape.specs.Leaves.{pairs_of}
-use Rattle.bptree_shape.specs.Shape.{leaf_pairs}
-use Rattle.bptree_shape.proofs.Walk.{flat-append}
+use Rattle.bptree_invariant.specs.Leaves.{pairs_of}
+use Rattle.bptree_invariant.specs.Shape.{leaf_pairs}
+use Rattle.bptree_invariant.proofs.Walk.{flat-append}
 
 module _ {K V : Type 0} where
   -- the key at an index of a list is the first of those from it on
@@ -29,7 +29,7 @@ module _ {K V A : Type 0} (slots : Slots (Inner K A) (Leaf K V)) where
   pub pairs_on : (xs ys : List LeafNodeId) → pairs_of slots (xs ++ ys) ≡ pairs_of slots xs ++ pairs_of slots ys
   pairs_on xs ys = flat-append (λ (id : LeafNodeId). leaf_pairs (slots.leaf id.0)) xs ys
 
-  -- the pairs from a leaf on
+  -- the pairs of a leaf and of those behind it are the leaf's pairs, and then the others'
   pub pairs_from : (ids : List LeafNodeId) (i : ℕ) (d : LeafNodeId) → i < length ids → pairs_of slots (drop i ids) ≡ pairs_under slots (slice_index_or ids i d) ++ pairs_of slots (drop (i + 1) ids)
   pairs_from ids i d within = ap (pairs_of slots) (drop_on ids i d within)
 
@@ -48,7 +48,7 @@ take_all [] = refl
 take_all (x ∷ xs) = ap (λ l. x ∷ l) (take_all xs)
 
 module _ {K V A : Type 0} (slots : Slots (Inner K A) (Leaf K V)) (ids : List LeafNodeId) where
-  -- where a leaf is
+  -- before a leaf are as many pairs as the leaves before it have; up to its end, its own pairs more
   pub at_leaf : (before : List LeafNodeId) (leaf : LeafNodeId) (after : List LeafNodeId) → ids ≡ before ++ leaf ∷ after
       → (pairs_before slots ids (length before) ≡ length (pairs_of slots before)) × (pairs_before slots ids (length before + 1) ≡ length (pairs_of slots before) + length (pairs_under slots leaf)) × (length before + 1 ≤ length ids)
   at_leaf before leaf after are =

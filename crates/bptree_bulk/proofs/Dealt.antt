@@ -4,8 +4,8 @@ use Rattle.std.proofs.Math.Seq.{drop-append_seam, take-append_seam}
 use Rattle.std.proofs.lemmas.List.{drop-append-le, length-drop, take-append-le, take_rest}
 use Rattle.std.specs.declared.alloc.Global.{Global}
 use Rattle.std.specs.declared.boxed.Box.{Box}
-use Rattle.bptree_building.specs.Rooms.{joined, pairs_under, parts_of}
-use Rattle.bptree_building.proofs.LeafIds.{map_on}
+use Rattle.bptree_bulk_load.specs.Rooms.{joined, pairs_under, parts_of}
+use Rattle.bptree_bulk_load.proofs.LeafIds.{map_on}
 use Rattle.bptree_bulk.specs.Cut.{cut_at, lower_parts, pieces, upper_parts, IsCut}
 use Rattle.bptree_bulk.specs.declared.cut.Cut.{Cut}
 use Rattle.bptree_bulk.proofs.Segments.{drop_more}
@@ -15,7 +15,7 @@ use Rattle.bptree_keys.specs.declared.node_id.LeafNodeId.{LeafNodeId}
 use Rattle.bptree_nodes.specs.Inner.{Inner}
 use Rattle.bptree_nodes.specs.Leaf.{Leaf}
 use Rattle.bptree_nodes.specs.Slot.{Slots}
-use Rattle.bptree_shape.specs.Leaves.{pairs_of}
+use Rattle.bptree_invariant.specs.Leaves.{pairs_of}
 
 module _ {X Y : Type 0} (f : X → Y) where
   map_taken : (n : ℕ) (xs : List X) → map f (take n xs) ≡ take n (map f xs)
@@ -35,7 +35,7 @@ module _ {X Y : Type 0} (f : X → Y) where
 abbrev pub pairs_in : {K V : Type 0} → Box (Leaf K V) Global → List (K × V)
 pairs_in leaf = leaf.value.pairs
 
--- the leaves that were under some numbers
+-- leaves that were stored under some ids
 module _ {K V A : Type 0} (slots : Slots (Inner K A) (Leaf K V)) (ids : List LeafNodeId) (boxes : List (Box (Leaf K V) Global)) (all : parts_of boxes ≡ map (pairs_under slots) ids) where
   pub parts_taken : (n : ℕ) → parts_of (take n boxes) ≡ map (pairs_under slots) (take n ids)
   parts_taken n = map_taken pairs_in n boxes ∙ (ap (take n) all ∙ sym (map_taken (pairs_under slots) n ids))
@@ -93,9 +93,9 @@ module _ {K V A : Type 0} (slots : Slots (Inner K A) (Leaf K V)) (ids : List Lea
       ∙ ap (λ m. pieces cut.above_half (part (l slots ids cut is) cut.below cut.above) ++ m) (parts_dropped slots ids boxes all cut.to)))
 
 -- what both sides have
-module _ {K V A : Type 0} (slots : Slots (Inner K A) (Leaf K V)) (ids : List LeafNodeId) (cut : Cut) (is : IsCut slots ids cut) (n : ℕ) (place : cut_at slots ids cut ≡ n) where
+module _ {K V A : Type 0} (slots : Slots (Inner K A) (Leaf K V)) (ids : List LeafNodeId) (cut : Cut) (is : IsCut slots ids cut) (n : ℕ) (index : cut_at slots ids cut ≡ n) where
   pub lower_pairs : joined (lower_parts slots ids cut) ≡ take n (pairs_of slots ids)
-  lower_pairs = sym (ap (take n) (sides_are_all slots ids cut is) ∙ (ap (λ m. take m (joined (lower_parts slots ids cut) ++ joined (upper_parts slots ids cut))) (sym place ∙ sym (lower_len slots ids cut is)) ∙ take-append_seam (joined (lower_parts slots ids cut)) (joined (upper_parts slots ids cut))))
+  lower_pairs = sym (ap (take n) (sides_are_all slots ids cut is) ∙ (ap (λ m. take m (joined (lower_parts slots ids cut) ++ joined (upper_parts slots ids cut))) (sym index ∙ sym (lower_len slots ids cut is)) ∙ take-append_seam (joined (lower_parts slots ids cut)) (joined (upper_parts slots ids cut))))
 
   pub upper_pairs : joined (upper_parts slots ids cut) ≡ drop n (pairs_of slots ids)
-  upper_pairs = sym (ap (drop n) (sides_are_all slots ids cut is) ∙ (ap (λ m. drop m (joined (lower_parts slots ids cut) ++ joined (upper_parts slots ids cut))) (sym place ∙ sym (lower_len slots ids cut is)) ∙ drop-append_seam (joined (lower_parts slots ids cut)) (joined (upper_parts slots ids cut))))
+  upper_pairs = sym (ap (drop n) (sides_are_all slots ids cut is) ∙ (ap (λ m. drop m (joined (lower_parts slots ids cut) ++ joined (upper_parts slots ids cut))) (sym index ∙ sym (lower_len slots ids cut is)) ∙ drop-append_seam (joined (lower_parts slots ids cut)) (joined (upper_parts slots ids cut))))

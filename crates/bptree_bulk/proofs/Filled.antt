@@ -3,7 +3,7 @@ use Rattle.std.proofs.Common.{◌≡◌, ◌<◌, ◌≤◌, ℕ, zero, suc, sym
 use Rattle.std.specs.declared.cmp.Ordering.{Ordering}
 use Rattle.std.specs.List.{AllByRecursion}
 use Rattle.bptree_keys.proofs.PieceLemmas.{AllByRecursion-append, AllByRecursion-weaker}
-use Rattle.bptree_building.specs.Rooms.{pairs_under, IsFilledAt, IsPresentAt}
+use Rattle.bptree_bulk_load.specs.Rooms.{pairs_under, IsFilledAt, IsPresentAt}
 use Rattle.bptree_keys.specs.Contents.{IsAscending}
 use Rattle.bptree_keys.specs.declared.node_id.LeafNodeId.{LeafNodeId}
 use Rattle.bptree_keys.specs.declared.node_id.NodeId.{NodeId}
@@ -11,8 +11,8 @@ use Rattle.bptree_keys.specs.declared.node_id.NodeId.TheVariants as kind
 use Rattle.bptree_nodes.specs.Inner.{Inner}
 use Rattle.bptree_nodes.specs.Leaf.{Leaf}
 use Rattle.bptree_nodes.specs.Slot.{Slots}
-use Rattle.bptree_shape.specs.Order.{flat, Chain}
-use Rattle.bptree_shape.specs.Shape.{inner_children, inner_keys, leaves_at, root_least, IsTree, IsWellShaped}
+use Rattle.bptree_invariant.specs.Order.{flat, Chain}
+use Rattle.bptree_invariant.specs.Shape.{inner_children, inner_keys, leaves_at, root_least, IsTree, IsWellShaped}
 
 module _ {K V A : Type 0} (cmp : K → K → Ordering) (slots : Slots (Inner K A) (Leaf K V)) where
   -- a leaf below a root
@@ -33,7 +33,7 @@ module _ {K V A : Type 0} (cmp : K → K → Ordering) (slots : Slots (Inner K A
   full_below (suc h) (kind.Leaf id) lo hi t = tt
   full_below (suc h) (kind.Inner id) lo hi t = all_children IsFull h (full_below h) (inner_keys (slots.inner id.0)) (inner_children (slots.inner id.0)) lo hi t.1
 
-  -- all leaves are full where there are several
+  -- all leaves are full if there are several
   all_full : (h : ℕ) (root : NodeId) → IsTree cmp slots (root_least h) h root None None → 1 < length (leaves_at slots h root) → AllByRecursion IsFull (leaves_at slots h root)
   all_full zero (kind.Leaf id) t several = absurd (omega (arith, several))
   all_full zero (kind.Inner id) t several = tt

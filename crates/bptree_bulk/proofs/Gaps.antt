@@ -5,7 +5,7 @@ use Rattle.std.proofs.lemmas.Bool.Decides.{eqb_tells}
 use Rattle.std.proofs.lemmas.List.{drop-append-le, length-drop, length-take-le, take-append-le}
 use Rattle.std.specs.declared.cmp.Ordering.{Ordering}
 use Rattle.std.specs.List.{AllByRecursion}
-use Rattle.bptree_building.specs.Rooms.{pairs_under}
+use Rattle.bptree_bulk_load.specs.Rooms.{pairs_under}
 use Rattle.bptree_bulk.specs.Cut.{pairs_before, BeginsBorder, EndsBorder}
 use Rattle.bptree_bulk.specs.Gap.{gap_begins, gap_ends, kept_of, without_part, IsGap}
 use Rattle.bptree_bulk.specs.declared.gap.Gap.{Gap}
@@ -20,9 +20,9 @@ use Rattle.bptree_keys.specs.declared.node_id.Position.{Position}
 use Rattle.bptree_nodes.specs.Inner.{Inner}
 use Rattle.bptree_nodes.specs.Leaf.{Leaf}
 use Rattle.bptree_nodes.specs.Slot.{Slots}
-use Rattle.bptree_ranges.specs.Ranges.{ahead, place_on, IsPlaceOn}
-use Rattle.bptree_shape.specs.Leaves.{pairs_of}
-use Rattle.bptree_shape.specs.Shape.{leaves_at, IsWellShaped}
+use Rattle.bptree_ranges.specs.Ranges.{ahead, index_on, IsIndexOn}
+use Rattle.bptree_invariant.specs.Leaves.{pairs_of}
+use Rattle.bptree_invariant.specs.Shape.{leaves_at, IsWellShaped}
 
 -- a part that lies in the first of two lists, or in the second
 module _ {X : Type 0} (before behind : ℕ) where
@@ -44,7 +44,7 @@ module _ {K V A : Type 0} (slots : Slots (Inner K A) (Leaf K V)) (ids : List Lea
   pub pairs_within : (n : ℕ) → pairs_before slots ids n ≤ length (pairs_of slots ids)
   pairs_within n = omega (arith, split_len slots ids n)
 
-  -- the pairs of the leaves from one index up to another
+  -- the leaves before an index have as many pairs as those before a smaller one, and those between
   pub pairs_between : (a b : ℕ) → a ≤ b → pairs_before slots ids b ≡ pairs_before slots ids a + length (pairs_of slots (take (b - a) (drop a ids)))
   pairs_between a b order =
       let ends : b ≡ a + (b - a) = omega (arith, order) in
@@ -96,7 +96,7 @@ module _ {K V A : Type 0} (slots : Slots (Inner K A) (Leaf K V)) (ids : List Lea
         pairs_none : i ≡ 0 → pairs_before slots ids i ≡ 0
         pairs_none none = ap (pairs_before slots ids) none
 
-  -- the pairs of the border, and those of them that stay
+  -- the pairs of the border, and those of the border that stay
   module _ (gap : Gap) (is : IsGap slots ids gap) where
     abbrev pub l : List (K × V)
     l = pairs_of slots (drop gap.from ids)
@@ -130,7 +130,7 @@ module _ {K V A : Type 0} (slots : Slots (Inner K A) (Leaf K V)) (ids : List Lea
     pub kept_len : length (kept_of gap l) ≡ gap.count
     kept_len = ap length kept_is ∙ edge_kept
 
-    -- the pairs from the border on are at least the border's, and so are those of them that stay
+    -- the pairs from the border on are at least as many as the border's; so are those that stay
     pub behind_in_rest : gap.behind ≤ length l
     behind_in_rest = omega (arith, behind_within, ap length border_is, length-append edge (pairs_of slots (drop gap.to ids)))
 
@@ -145,22 +145,22 @@ module _ {K V A : Type 0} (slots : Slots (Inner K A) (Leaf K V)) (ids : List Lea
         ∙ (ap (λ xs. first ++ xs) (sym around_is)
         ∙ (sym (part_in_second gap.before gap.behind first l) ∙ ap (without_part (gap_begins slots ids gap) (gap_ends slots ids gap)) (sym (split_at slots ids gap.from))))
 
--- two positions of a tree, the first before the second, among the numbers of all leaves
+-- two positions of a tree, the first before the second, among the ids of all leaves
 module _ {K V A : Type 0} (slots : Slots (Inner K A) (Leaf K V)) (h : ℕ) (root : NodeId) (ids : List LeafNodeId) (lo hi : Position) (i j : ℕ) where
   pub record AreSpots : Type 0 where
-    pub begin : pairs_before slots ids i + lo.slot ≡ place_on slots h root lo
-    pub end : pairs_before slots ids j + hi.slot ≡ place_on slots h root hi
-    pub rises : place_on slots h root lo < place_on slots h root hi
+    pub begin : pairs_before slots ids i + lo.slot ≡ index_on slots h root lo
+    pub end : pairs_before slots ids j + hi.slot ≡ index_on slots h root hi
+    pub rises : index_on slots h root lo < index_on slots h root hi
     pub next : pairs_before slots ids (j + 1) ≡ pairs_before slots ids j + length (pairs_under slots hi.leaf)
     pub slot : hi.slot ≤ length (pairs_under slots hi.leaf)
     pub order : i ≤ j
     pub within : j + 1 ≤ length ids
 
-  pub are_spots : {cmp : K → K → Ordering} (is_summary : A → List K → Type 0) → IsWellShaped cmp is_summary slots h root → ids ≡ leaves_at slots h root → IsPlaceOn slots h root lo.leaf lo.slot → IsPlaceOn slots h root hi.leaf hi.slot
-      → place_on slots h root lo < place_on slots h root hi → i ≡ length (ahead lo.leaf.0 ids) → j ≡ length (ahead hi.leaf.0 ids) → AreSpots
+  pub are_spots : {cmp : K → K → Ordering} (is_summary : A → List K → Type 0) → IsWellShaped cmp is_summary slots h root → ids ≡ leaves_at slots h root → IsIndexOn slots h root lo.leaf lo.slot → IsIndexOn slots h root hi.leaf hi.slot
+      → index_on slots h root lo < index_on slots h root hi → i ≡ length (ahead lo.leaf.0 ids) → j ≡ length (ahead hi.leaf.0 ids) → AreSpots
   are_spots is_summary shape are on on' rises i_is j_is =
-      let low = is_at is_summary slots h root shape ids are lo.leaf on.stands i i_is in
-      let high = is_at is_summary slots h root shape ids are hi.leaf on'.stands j j_is in
+      let low = is_at is_summary slots h root shape ids are lo.leaf on.stored i i_is in
+      let high = is_at is_summary slots h root shape ids are hi.leaf on'.stored j j_is in
       let within : hi.slot ≤ length (pairs_under slots hi.leaf) = on'.within in
       record {
         begin = ap (λ n. n + lo.slot) low.start_is;

@@ -2,8 +2,8 @@
 use Rattle.std.proofs.Common.{◌≡◌, ◌∙◌, ◌<◌, ◌≤◌, ◌^◌, sym, ap, subst, refl, List, [], ◌∷◌, ◌++◌, length, map, arith, append-nil}
 use Rattle.std.specs.declared.cmp.Ordering.{Ordering}
 use Rattle.std.specs.List.{AllByRecursion}
-use Rattle.bptree_building.specs.Rooms.{joined, pairs_under, AreAllPlanned, ArePlanned, IsFilledAt, IsPresentAt}
-use Rattle.bptree_building.specs.declared.subtree.Subtree.{Subtree}
+use Rattle.bptree_bulk_load.specs.Rooms.{joined, pairs_under, AreAllPlanned, ArePlanned, IsFilledAt, IsPresentAt}
+use Rattle.bptree_bulk_load.specs.declared.subtree.Subtree.{Subtree}
 use Rattle.bptree_bulk.specs.Joining.{parts_of_both}
 use Rattle.bptree_bulk.proofs.OwnLeaves.{own_filled, own_least, own_pairs, own_present}
 use Rattle.bptree_bulk.proofs.Sides.{enough_leaves, joined_leaves}
@@ -13,17 +13,18 @@ use Rattle.bptree_keys.proofs.PieceLemmas.{AllByRecursion-append}
 use Rattle.bptree_nodes.specs.Inner.{Inner}
 use Rattle.bptree_nodes.specs.Leaf.{Leaf}
 use Rattle.bptree_nodes.specs.Slot.{Slots}
-use Rattle.bptree_shape.specs.Leaves.{pairs_of}
-use Rattle.bptree_shape.specs.NodeTree.{IsWhole, NodeTree}
-use Rattle.bptree_shape.specs.Shape.{leaves_at}
-use Rattle.bptree_shape.proofs.Walk.{flat-append}
+use Rattle.bptree_invariant.specs.Leaves.{pairs_of}
+use Rattle.bptree_invariant.specs.NodeTree.{IsWhole, NodeTree}
+use Rattle.bptree_invariant.specs.Shape.{leaves_at}
+use Rattle.bptree_invariant.proofs.Walk.{flat-append}
 
 module _ {X : Type 0} where
   some_part : (parts : List (List X)) → 0 < length (joined parts) → 0 < length parts
   some_part [] some = absurd (omega (arith, some))
   some_part (p ∷ ps) some = omega arith
 
-  -- what holds of each of several members holds of each of any number, where it holds of one that is alone
+  -- a property of each of several members, and of a member that is alone, holds of any number of
+  -- them
   alone_or_several : (P : X → Type 0) (xs : List X) → (1 < length xs → AllByRecursion P xs) → ((x : X) → xs ≡ x ∷ [] → P x) → AllByRecursion P xs
   alone_or_several P [] several alone = tt
   alone_or_several P (x ∷ []) several alone = (alone x refl, tt)

@@ -10,7 +10,7 @@ use Rattle.std.specs.Map.{keys_of}
 use Rattle.std.specs.declared.cmp.Ordering.{Ordering}
 use Rattle.std.specs.declared.cmp.Ordering.TheVariants.{Less}
 use Rattle.bptree_arguments.specs.Sums.{SumsUpPieces}
-use Rattle.bptree_ascent.specs.Change.{StartsAt}
+use Rattle.bptree_propagation.specs.Change.{StartsAt}
 use Rattle.bptree_bulk.proofs.Passed.{take_take}
 use Rattle.bptree_bulk.proofs.Segments.{drop_more}
 use Rattle.bptree_bulk.specs.Gap.{without_part}
@@ -18,9 +18,9 @@ use Rattle.bptree_keys.specs.Contents.{IsAscending}
 use Rattle.bptree_keys.specs.Pieces.{flatten}
 use Rattle.bptree_keys.specs.Ranges.{part}
 use Rattle.bptree_keys.proofs.Ascending.{all_after, all_before, all_joined, ascending_cons}
-use Rattle.bptree_shape.proofs.NodePieces.{keys-append}
-use Rattle.bptree_shape.proofs.Ordered.{ascending_after}
-use Rattle.bptree_shape.proofs.Spot.{ascending_before}
+use Rattle.bptree_invariant.proofs.NodePieces.{keys-append}
+use Rattle.bptree_invariant.proofs.Ordered.{ascending_after}
+use Rattle.bptree_invariant.proofs.Spot.{ascending_before}
 
 module _ {X : Type 0} where
   -- a part of the first members is one of all
@@ -41,13 +41,13 @@ module _ {X : Type 0} where
         let turned : n + (from - m) ≡ from - m + n = omega arith in
         ap (take count) (ap (λ k. drop k (without_part m n l)) sum ∙ (drop-append-add (take m l) (drop n l) (from - m) ∙ (drop_more n (from - m) l ∙ ap (λ k. drop k l) turned)))
 
-    -- or before it
+    -- a part before the gap is a part of the whole list
     pub kept_before : from + count ≤ m → part (without_part m n l) from count ≡ part l from count
     kept_before within =
         let start = drop-append-le from (take m l) (drop n l) (omega (arith, first_len, within)) in
         ap (take count) start ∙ (take-append-le count (drop from (take m l)) (drop n l) (omega (arith, length-drop from (take m l), first_len, within)) ∙ part_first l m from count within)
 
-    -- or on both sides of it
+    -- a part on both sides of the gap is two parts of the whole list
     pub kept_across : from ≤ m → m ≤ from + count → part (without_part m n l) from count ≡ part l from (m - from) ++ part l n (count - (m - from))
     kept_across starts ends =
         let start = drop-append-le from (take m l) (drop n l) (omega (arith, first_len, starts)) in
@@ -70,7 +70,7 @@ module _ {K V : Type 0} {cmp : K → K → Ordering} (total : IsTotalOrder cmp) 
       (all_joined P xs ys (all_before P xs (gone ++ ys) first) (all_after P gone ys (all_after P xs (gone ++ ys) first)))
       (ascending_around xs gone ys (sorted_tail cmp p.0 (keys_of (xs ++ (gone ++ ys))) ascending))
 
-  -- and so do two parts of it, one before the other
+  -- two parts of an ascending list, one before the other, ascend
   pub parts_ascend : (l : List (K × V)) (a m b n : ℕ) → a + m ≤ b → IsAscending cmp l → IsAscending cmp (part l a m ++ part l b n)
   parts_ascend l a m b n order ascending =
       let p = part l a m in

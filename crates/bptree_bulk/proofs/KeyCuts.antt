@@ -14,8 +14,8 @@ use Rattle.bptree_bulk.proofs.Segments.{every_passes}
 use Rattle.bptree_keys.specs.Contents.{IsAscending}
 use Rattle.bptree_keys.specs.Ranges.{between}
 use Rattle.bptree_keys.proofs.Ascending.{all_pairs}
-use Rattle.bptree_shape.proofs.Between.{none_pass}
-use Rattle.bptree_shape.proofs.Ordered.{by_cases}
+use Rattle.bptree_invariant.proofs.Between.{none_pass}
+use Rattle.bptree_invariant.proofs.Ordered.{by_cases}
 
 cut_same : {X : Type 0} (lower below upper above : List X) → length lower ≡ length below → lower ++ upper ≡ below ++ above → (lower ≡ below) × (upper ≡ above)
 cut_same [] [] upper above long same = (refl, same)
@@ -49,13 +49,13 @@ module _ {K V : Type 0} {cmp : K → K → Ordering} (total : IsTotalOrder cmp) 
       let all : between cmp (p ∷ l) (Some k) None ≡ p ∷ l = every_passes (λ (q : K × V). not (is_lt (cmp q.0 k)) && true) (p ∷ l) (passes (p ∷ l) from) in
       sym (ap (λ m. m ++ between cmp (p ∷ l) (Some k) None) none ∙ all)
 
-  -- the list is what is below a key, and then the others
+  -- an ascending list is its part below a key, and then the others
   cut_at_key : (l : List (K × V)) → IsAscending cmp l → l ≡ between cmp l None (Some k) ++ between cmp l (Some k) None
   cut_at_key [] ascending = refl
   cut_at_key (p ∷ l) ascending = cut_here p l (is_lt (cmp p.0 k)) refl ascending (cut_at_key l (sorted_tail cmp p.0 (keys_of l) ascending))
 
   module _ (l : List (K × V)) (ascending : IsAscending cmp l) where
-    -- so are two parts of which the first is as long as what is below it
+    -- two parts of the list are these two if the first is as long as what is below the key
     pub parts_at : (lower upper : List (K × V)) → l ≡ lower ++ upper → length lower ≡ length (between cmp l None (Some k)) → PartsAt cmp k l lower upper
     parts_at lower upper parts long = cut_same lower (between cmp l None (Some k)) upper (between cmp l (Some k) None) long (sym parts ∙ cut_at_key l ascending)
 

@@ -2,7 +2,7 @@
 use Rattle.std.proofs.Common.{◌≡◌, ◌∙◌, ◌<◌, ◌≤◌, ℕ, sym, ap, subst, List, ◌++◌, length, map, take, drop}
 use Rattle.std.specs.declared.cmp.Ordering.{Ordering}
 use Rattle.std.specs.List.{AllByRecursion}
-use Rattle.bptree_building.specs.Rooms.{id_count, pairs_under, IsFilledAt, IsPresentAt}
+use Rattle.bptree_bulk_load.specs.Rooms.{id_count, pairs_under, IsFilledAt, IsPresentAt}
 use Rattle.bptree_bulk.specs.Positions.{AreLast}
 use Rattle.bptree_bulk.proofs.Filled.{filled_leaves, least_leaves, present_leaves}
 use Rattle.bptree_bulk.proofs.Placed.{all_pairs, is_at, once, IsAt}
@@ -12,9 +12,9 @@ use Rattle.bptree_nodes.specs.Inner.{Inner}
 use Rattle.bptree_nodes.specs.Leaf.{Leaf}
 use Rattle.bptree_nodes.specs.Slot.{Slots}
 use Rattle.bptree_ranges.specs.Ranges.{ahead}
-use Rattle.bptree_shape.specs.Leaves.{pairs_of, StandsIn}
-use Rattle.bptree_shape.specs.NodeTree.{IsWhole, NodeTree}
-use Rattle.bptree_shape.specs.Shape.{leaves_at}
+use Rattle.bptree_invariant.specs.Leaves.{pairs_of, IsLeafOf}
+use Rattle.bptree_invariant.specs.NodeTree.{IsWhole, NodeTree}
+use Rattle.bptree_invariant.specs.Shape.{leaves_at}
 
 module _ {S K V A : Type 0} {cmp : K → K → Ordering} {is_summary : A → List K → Type 0} {slots : S → Slots (Inner K A) (Leaf K V)} {tree : NodeTree S K V A} (whole : IsWhole cmp is_summary slots tree) {ids : List LeafNodeId} (are : ids ≡ leaves_at (slots tree.store) tree.height tree.root) where
   pub own_present : AllByRecursion (IsPresentAt (slots tree.store)) ids
@@ -32,8 +32,8 @@ module _ {S K V A : Type 0} {cmp : K → K → Ordering} {is_summary : A → Lis
   pub own_pairs : pairs_of (slots tree.store) ids ≡ tree.contents
   own_pairs = all_pairs is_summary (slots tree.store) tree.height tree.root whole.shape ids are ∙ sym whole.contents
 
-  pub own_at : {leaf : LeafNodeId} {i : ℕ} → StandsIn (slots tree.store) tree.height tree.root leaf → i ≡ length (ahead leaf.0 ids) → IsAt (slots tree.store) tree.height tree.root ids leaf i
-  own_at {leaf} {i} stands at = is_at is_summary (slots tree.store) tree.height tree.root whole.shape ids are leaf stands i at
+  pub own_at : {leaf : LeafNodeId} {i : ℕ} → IsLeafOf (slots tree.store) tree.height tree.root leaf → i ≡ length (ahead leaf.0 ids) → IsAt (slots tree.store) tree.height tree.root ids leaf i
+  own_at {leaf} {i} stored at = is_at is_summary (slots tree.store) tree.height tree.root whole.shape ids are leaf stored i at
 
   -- the leaves from an index on
   module _ (from : ℕ) {rest : List LeafNodeId} (is : rest ≡ drop from ids) where
@@ -45,12 +45,12 @@ module _ {S K V A : Type 0} {cmp : K → K → Ordering} {is_summary : A → Lis
         let first = pairs_of (slots tree.store) (take from ids) in
         (first, sym own_pairs ∙ (split_at (slots tree.store) ids from ∙ ap (λ xs. first ++ pairs_of (slots tree.store) xs) (sym is)))
 
--- what is known of a tree's leaves holds where its store and their numbers are read
+-- properties of a tree's leaves hold of an equal store and equal leaf ids
 module _ {S K V A : Type 0} (slots : S → Slots (Inner K A) (Leaf K V)) {store read : S} (same : read ≡ store) {ids found : List LeafNodeId} (are : found ≡ ids) where
   pub all_read : (P : Slots (Inner K A) (Leaf K V) → LeafNodeId → Type 0) → AllByRecursion (P (slots store)) ids → AllByRecursion (P (slots read)) found
   all_read P all = subst (λ s. AllByRecursion (P (slots s)) found) (sym same) (subst (AllByRecursion (P (slots store))) (sym are) all)
 
-  -- their pairs come behind others
+  -- the pairs of the leaves come behind others
   pub pairs_read : (parts none some : List (List (K × V))) → none ≡ some → parts ≡ none ++ map (pairs_under (slots read)) found → parts ≡ some ++ map (pairs_under (slots store)) ids
   pairs_read parts none some before is =
       is

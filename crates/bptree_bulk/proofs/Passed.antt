@@ -3,7 +3,7 @@ use Rattle.std.proofs.Common.{◌≡◌, ◌∙◌, ◌+◌, ◌-◌, ◌<◌, �
 use Rattle.std.proofs.lemmas.List.{drop-take}
 use Rattle.std.specs.declared.alloc.Global.{Global}
 use Rattle.std.specs.declared.boxed.Box.{Box}
-use Rattle.bptree_building.specs.Rooms.{joined, parts_of}
+use Rattle.bptree_bulk_load.specs.Rooms.{joined, parts_of}
 use Rattle.bptree_bulk.specs.Moving.{poured}
 use Rattle.bptree_bulk.specs.Cut.{pieces}
 use Rattle.bptree_nodes.specs.Leaf.{Leaf}

@@ -8,9 +8,9 @@ use Rattle.std.specs.List.{AllByRecursion}
 use Rattle.std.specs.declared.alloc.Global.{Global}
 use Rattle.std.specs.declared.boxed.Box.{Box}
 use Rattle.std.specs.declared.cmp.Ordering.{Ordering}
-use Rattle.bptree_building.specs.Rooms.{joined, pairs_under, parts_of, AreAllPlanned, ArePlanned}
-use Rattle.bptree_building.specs.declared.subtree.Subtree.{Subtree}
-use Rattle.bptree_building.proofs.LeafIds.{map_on}
+use Rattle.bptree_bulk_load.specs.Rooms.{joined, pairs_under, parts_of, AreAllPlanned, ArePlanned}
+use Rattle.bptree_bulk_load.specs.declared.subtree.Subtree.{Subtree}
+use Rattle.bptree_bulk_load.proofs.LeafIds.{map_on}
 use Rattle.bptree_bulk.specs.Filling.{AreParts}
 use Rattle.bptree_bulk.specs.Gap.{gap_begins, gap_ends, without_part, IsGap}
 use Rattle.bptree_bulk.specs.Removing.{border_kept, parts_around}
@@ -27,8 +27,8 @@ use Rattle.bptree_keys.proofs.PieceLemmas.{AllByRecursion-append}
 use Rattle.bptree_nodes.specs.Inner.{Inner}
 use Rattle.bptree_nodes.specs.Leaf.{Leaf}
 use Rattle.bptree_nodes.specs.Slot.{Slots}
-use Rattle.bptree_shape.specs.Leaves.{pairs_of}
-use Rattle.bptree_shape.proofs.Walk.{flat-append}
+use Rattle.bptree_invariant.specs.Leaves.{pairs_of}
+use Rattle.bptree_invariant.proofs.Walk.{flat-append}
 
 -- what stays of an ascending list ascends, and is no longer
 pub without_ascends : {K V : Type 0} {cmp : K → K → Ordering} (total : IsTotalOrder cmp) (m n : ℕ) (l : List (K × V)) → m ≤ n → IsAscending cmp l → IsAscending cmp (without_part m n l)
@@ -42,7 +42,7 @@ without_shorter m n l order =
     omega (arith, order, length-append (take m l) (drop n l), length-drop n l, length-drop m l, length-append (take m l) (drop m l), ap length (take-append-drop m l))
 
 module _ {K V A : Type 0} (slots : Slots (Inner K A) (Leaf K V)) (ids : List LeafNodeId) (gap : Gap) (is : IsGap slots ids gap) where
-  -- what holds of all leaves where there are several holds of those before the border, and of those behind it
+  -- a property of all leaves, if there are several, holds of those before the border and behind it
   module _ (P : LeafNodeId → Type 0) (all : 1 < length ids → AllByRecursion P ids) where
     pub all_before : AllByRecursion P (take gap.from ids)
     all_before = several_taken P gap.from ids all (λ some. omega (arith, some, is.order, is.within))
@@ -102,7 +102,7 @@ module _ {K V A : Type 0} (slots : Slots (Inner K A) (Leaf K V)) (ids : List Lea
             few = omega (arith, few, ap length around_all, without_shorter (gap_begins slots ids gap) (gap_ends slots ids gap) (pairs_of slots ids) order);
           }
 
-  -- the leaves that were under these numbers
+  -- leaves that were stored under these ids
   module _ (boxes : List (Box (Leaf K V) Global)) (all : parts_of boxes ≡ map (pairs_under slots) ids) where
     pub poured_edge : joined (parts_of (take (gap.to - gap.from) (drop gap.from boxes))) ≡ edge slots ids gap is
     poured_edge = poured_part slots ids boxes all gap.from (gap.to - gap.from)

@@ -10,15 +10,15 @@ use Rattle.std.specs.Ordering.{is_lt}
 use Rattle.std.proofs.lemmas.Cmp.{tied_back, tied_itself}
 use Rattle.std.proofs.lemmas.List.{length-drop, length-take-le, take-append-drop}
 use Rattle.std.proofs.lemmas.List.Elements.{filter-append}
-use Rattle.bptree_ascent.specs.Change.{StartsAt}
-use Rattle.bptree_ascent.proofs.LeafEdit.{below_start, from_start}
+use Rattle.bptree_propagation.specs.Change.{StartsAt}
+use Rattle.bptree_propagation.proofs.LeafEdit.{below_start, from_start}
 use Rattle.bptree_bulk.proofs.Passed.{take_one}
 use Rattle.bptree_bulk.specs.Cut.{first_key}
 use Rattle.bptree_keys.specs.Contents.{IsAscending}
 use Rattle.bptree_keys.specs.Ranges.{between, falls_short, part, stays_below}
 use Rattle.bptree_keys.proofs.PieceLemmas.{AllByRecursion-left, AllByRecursion-weaker}
-use Rattle.bptree_shape.proofs.Between.{each_of, none_pass}
-use Rattle.bptree_shape.proofs.Ordered.{ascending_after}
+use Rattle.bptree_invariant.proofs.Between.{each_of, none_pass}
+use Rattle.bptree_invariant.proofs.Ordered.{ascending_after}
 
 drop_none : {X : Type 0} (k : ℕ) → drop {A = X} k [] ≡ []
 drop_none zero = refl
@@ -77,7 +77,7 @@ module _ {K V : Type 0} {cmp : K → K → Ordering} (total : IsTotalOrder cmp) 
       ∙ (filter-append test (p ∷ ps) rest
       ∙ (ap (λ m. filter test (p ∷ ps) ++ m) behind ∙ (append-nil (filter test (p ∷ ps)) ∙ own)))))
 
-  -- the pairs of a part, where the list is the end of a longer one, and what a leaf of them begins with
+  -- a part of the end of a longer ascending list: its pairs, and the key a leaf of them begins with
   module _ (l before : List (K × V)) (from count : ℕ) (all : List (K × V)) (is : all ≡ before ++ l) (ascending : IsAscending cmp all) (some : 0 < count) (within : from + count ≤ length l) where
     pub piece_len : length (part l from count) ≡ count
     piece_len = length-take-le count (drop from l) (omega (arith, length-drop from l, within))

@@ -1,11 +1,11 @@
--- What is planned for the leaves of one side of a cut are all the leaves of a tree.
+-- The leaves that are planned for one side of a cut are all the leaves of a tree.
 use Rattle.std.proofs.Common.{◌≡◌, ◌-◌, ◌<◌, ◌^◌, ℕ, sym, ap, subst, List, ◌++◌, length, map, take, drop, arith}
 use Rattle.std.proofs.lemmas.List.{take_rest}
 use Rattle.std.specs.Cmp.{IsTotalOrder}
 use Rattle.std.specs.declared.cmp.Ordering.{Ordering}
-use Rattle.bptree_building.specs.Plans.{Plans, PlansAll}
-use Rattle.bptree_building.specs.Rooms.{pairs_under}
-use Rattle.bptree_building.specs.declared.plan.Plan.{Plan}
+use Rattle.bptree_bulk_load.specs.Plans.{Plans, PlansAll}
+use Rattle.bptree_bulk_load.specs.Rooms.{pairs_under}
+use Rattle.bptree_bulk_load.specs.declared.plan.Plan.{Plan}
 use Rattle.bptree_bulk.specs.Cut.{from_cut, lower_parts, pieces, upper_parts, IsCut}
 use Rattle.bptree_bulk.specs.declared.cut.Cut.{Cut}
 use Rattle.bptree_bulk.proofs.OwnLeaves.{own_least, own_pairs}
@@ -16,9 +16,9 @@ use Rattle.bptree_keys.specs.declared.node_id.LeafNodeId.{LeafNodeId}
 use Rattle.bptree_nodes.specs.Inner.{Inner}
 use Rattle.bptree_nodes.specs.Leaf.{Leaf}
 use Rattle.bptree_nodes.specs.Slot.{Slots}
-use Rattle.bptree_shape.specs.Leaves.{pairs_of}
-use Rattle.bptree_shape.specs.NodeTree.{IsWhole, NodeTree}
-use Rattle.bptree_shape.specs.Shape.{leaves_at}
+use Rattle.bptree_invariant.specs.Leaves.{pairs_of}
+use Rattle.bptree_invariant.specs.NodeTree.{IsWhole, NodeTree}
+use Rattle.bptree_invariant.specs.Shape.{leaves_at}
 
 module _ {S K V A : Type 0} {cmp : K → K → Ordering} {is_summary : A → List K → Type 0} {slots : S → Slots (Inner K A) (Leaf K V)} {tree : NodeTree S K V A} (whole : IsWhole cmp is_summary slots tree) (total : IsTotalOrder cmp) (ascending : IsAscending cmp tree.contents) (few : length tree.contents < 2 ^ 64)
     {ids : List LeafNodeId} (are : ids ≡ leaves_at (slots tree.store) tree.height tree.root) {cut : Cut} (is : IsCut (slots tree.store) ids cut) (plan : Plan S K V A) where

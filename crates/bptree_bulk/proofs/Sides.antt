@@ -6,8 +6,8 @@ use Rattle.std.proofs.lemmas.List.{length-drop, length-take-le, take-append-drop
 use Rattle.std.specs.declared.cmp.Ordering.{Ordering}
 use Rattle.std.specs.Cmp.{IsTotalOrder}
 use Rattle.std.specs.List.{AllByRecursion}
-use Rattle.bptree_building.specs.Rooms.{joined, pairs_under, AreAllPlanned, ArePlanned}
-use Rattle.bptree_building.specs.declared.subtree.Subtree.{Subtree}
+use Rattle.bptree_bulk_load.specs.Rooms.{joined, pairs_under, AreAllPlanned, ArePlanned}
+use Rattle.bptree_bulk_load.specs.declared.subtree.Subtree.{Subtree}
 use Rattle.bptree_bulk.specs.Cut.{cut_at, from_cut, lower_parts, pairs_before, pieces, upper_parts, IsCut, IsHalf}
 use Rattle.bptree_bulk.specs.declared.cut.Cut.{Cut}
 use Rattle.bptree_bulk.proofs.Cuts.{pairs_on}
@@ -19,10 +19,10 @@ use Rattle.bptree_keys.proofs.PieceLemmas.{AllByRecursion-append, AllByRecursion
 use Rattle.bptree_nodes.specs.Inner.{Inner}
 use Rattle.bptree_nodes.specs.Leaf.{Leaf}
 use Rattle.bptree_nodes.specs.Slot.{Slots}
-use Rattle.bptree_shape.specs.Leaves.{pairs_of}
-use Rattle.bptree_shape.proofs.Ordered.{ascending_after}
-use Rattle.bptree_shape.proofs.Spot.{ascending_before}
-use Rattle.bptree_shape.proofs.Walk.{flat-append}
+use Rattle.bptree_invariant.specs.Leaves.{pairs_of}
+use Rattle.bptree_invariant.proofs.Ordered.{ascending_after}
+use Rattle.bptree_invariant.proofs.Spot.{ascending_before}
+use Rattle.bptree_invariant.proofs.Walk.{flat-append}
 
 module _ {X : Type 0} where
   pub joined_pieces : (half : ℕ) (l : List X) → joined (pieces half l) ≡ l
@@ -33,7 +33,7 @@ module _ {X : Type 0} where
   some_pieces zero l = omega arith
   some_pieces (suc n) l = omega arith
 
-  -- each piece is large enough where the whole is
+  -- each piece is large enough if the whole is
   enough_pieces : (half count : ℕ) (l : List X) → IsHalf count half → length l ≡ count → (half ≡ 0 → 16 ≤ count) → AllByRecursion (λ (p : List X). 16 ≤ length p) (pieces half l)
   enough_pieces zero count l is long enough = (omega (arith, long, enough refl), tt)
   enough_pieces (suc n) count l is long enough =
@@ -42,7 +42,7 @@ module _ {X : Type 0} where
         (omega (arith, two.2, long, length-drop (suc n) l), tt),
       )
 
-  -- more than one piece are two large ones
+  -- if the pieces are two, both are large enough
   several_pieces : (half count : ℕ) (l : List X) → IsHalf count half → length l ≡ count → 1 < length (pieces half l) → AllByRecursion (λ (p : List X). 16 ≤ length p) (pieces half l)
   several_pieces zero count l is long several = absurd (omega (arith, several))
   several_pieces (suc n) count l is long several = enough_pieces (suc n) count l is long (λ none. absurd (omega (arith, none)))
@@ -53,7 +53,8 @@ module _ {X : Type 0} where
   pub all_dropped : (P : X → Type 0) (n : ℕ) (xs : List X) → AllByRecursion P xs → AllByRecursion P (drop n xs)
   all_dropped P n xs all = AllByRecursion-right P (take n xs) (drop n xs) (subst (AllByRecursion P) (sym (take-append-drop n xs)) all)
 
-  -- what holds of several members holds of the first of them, and of the last, where some are taken only of several
+  -- a property of several members holds of the first n and of the last ones, if some are taken only
+  -- of several
   pub several_taken : (P : X → Type 0) (n : ℕ) (xs : List X) → (1 < length xs → AllByRecursion P xs) → (0 < n → 1 < length xs) → AllByRecursion P (take n xs)
   several_taken P n xs all several = elim (eqb_tells n 0) [
     | inl none ↦ subst (λ m. AllByRecursion P (take m xs)) (sym none.1) tt
@@ -153,7 +154,8 @@ module _ {K V A : Type 0} (slots : Slots (Inner K A) (Leaf K V)) where
         | inr other ↦ omega (arith, is.order, other.1)
       ]
 
-      -- what holds of all leaves where there are several holds of those before the border, and of those behind it
+      -- a property of all leaves, if there are several, holds of those before the border and behind
+      -- it
       module _ (P : LeafNodeId → Type 0) (all : 1 < length ids → AllByRecursion P ids) where
         pub all_before : AllByRecursion P (take cut.from ids)
         all_before = several_taken P cut.from ids all (λ some. omega (arith, some, between_ends, is.within))

@@ -9,14 +9,14 @@ use Rattle.std.specs.Map.{keys_of}
 use Rattle.std.specs.declared.cmp.Ordering.{Ordering}
 use Rattle.std.specs.declared.cmp.Ordering.TheVariants.{Equal}
 use Rattle.bptree_arguments.specs.Sums.{SumsUpKeys, SumsUpPieces}
-use Rattle.bptree_ascent.specs.Change.{StartsAt}
+use Rattle.bptree_propagation.specs.Change.{StartsAt}
 use Rattle.bptree_bulk.specs.Weave.{first_rest, next_source, second_rest, step_pair, woven, Goes}
 use Rattle.bptree_bulk.specs.declared.weaving.Source.{Source}
 use Rattle.bptree_bulk.proofs.Weaves.{one_pair, woven_joined, woven_length}
 use Rattle.bptree_keys.specs.Contents.{IsAscending}
 use Rattle.bptree_keys.specs.Pieces.{flatten, AllNonEmpty}
 use Rattle.bptree_keys.proofs.PieceLemmas.{flatten-append, AllByRecursion-append, AllZip-append}
-use Rattle.bptree_shape.proofs.NodePieces.{keys-append}
+use Rattle.bptree_invariant.proofs.NodePieces.{keys-append}
 use Rattle.std.proofs.lemmas.Cmp.{tied_back}
 
 one_sorted : {K : Type 0} (cmp : K → K → Ordering) (keys : List K) → length keys ≡ 1 → IsStrictlySortedBy cmp keys
@@ -54,11 +54,11 @@ module _ {K V A : Type 0} (cmp : K → K → Ordering) (is_summary : A → List 
     pub summed_on : (sums sums' : List A) (sum : A) (keys : List K) → keys ≡ keys_of (step_pair source a' b') → SumsUpKeys is_summary cmp keys sum → sums' ≡ sums ++ sum ∷ [] → AreSummed i sums → AreSummed (i + 1) sums'
     summed_on sums sums' sum keys key sums_up more was =
         let one : length keys ≡ 1 = ap length key ∙ (length-keys_of (step_pair source a' b') ∙ one_pair cmp source a' b' next) in
-        let told = sums_up (omega (arith, one)) (one_sorted cmp keys one) in
+        let reported = sums_up (omega (arith, one)) (one_sorted cmp keys one) in
         record {
           pieces = was.pieces ++ keys ∷ [];
           some = AllByRecursion-append (λ p. 0 < length p) was.pieces (keys ∷ []) was.some (omega (arith, one), tt);
-          summed = subst (λ s. AllZip is_summary s (was.pieces ++ keys ∷ [])) (sym more) (AllZip-append is_summary sums was.pieces (sum ∷ []) (keys ∷ []) was.summed (told, tt));
+          summed = subst (λ s. AllZip is_summary s (was.pieces ++ keys ∷ [])) (sym more) (AllZip-append is_summary sums was.pieces (sum ∷ []) (keys ∷ []) was.summed (reported, tt));
           keys =
               flatten-append was.pieces (keys ∷ [])
               ∙ (ap (λ l. flatten was.pieces ++ l) (append-nil keys ∙ key)

@@ -7,9 +7,9 @@ use Rattle.std.specs.declared.cmp.Ordering.{Ordering}
 use Rattle.std.specs.List.{AllByRecursion}
 use Rattle.std.specs.declared.alloc.Global.{Global}
 use Rattle.std.specs.declared.boxed.Box.{Box}
-use Rattle.bptree_building.specs.Plans.{PlansAll}
-use Rattle.bptree_building.specs.Rooms.{joined, parts_of}
-use Rattle.bptree_building.specs.declared.plan.Plan.{Plan}
+use Rattle.bptree_bulk_load.specs.Plans.{PlansAll}
+use Rattle.bptree_bulk_load.specs.Rooms.{joined, parts_of}
+use Rattle.bptree_bulk_load.specs.declared.plan.Plan.{Plan}
 use Rattle.bptree_bulk.specs.Filling.{AreParts, IsFilling, IsLaidOut, IsSize}
 use Rattle.bptree_bulk.specs.declared.filling.Filling.{Filling}
 use Rattle.bptree_bulk.proofs.Segments.{drop_more}
@@ -22,10 +22,10 @@ use Rattle.bptree_nodes.specs.Leaf.{Leaf}
 use Rattle.bptree_nodes.specs.Slot.{Slots}
 use Rattle.bptree_ranges.specs.Ranges.{start}
 use Rattle.bptree_ranges.proofs.Ranged.{start_is}
-use Rattle.bptree_shape.specs.Leaves.{pairs_of, StandsIn}
-use Rattle.bptree_shape.specs.Shape.{leaf_pairs, pairs_at, IsWellShaped}
-use Rattle.bptree_shape.proofs.Down.{pairs_of_leaves}
-use Rattle.bptree_shape.proofs.Walk.{flat-append}
+use Rattle.bptree_invariant.specs.Leaves.{pairs_of, IsLeafOf}
+use Rattle.bptree_invariant.specs.Shape.{leaf_pairs, pairs_at, IsWellShaped}
+use Rattle.bptree_invariant.proofs.Down.{pairs_of_leaves}
+use Rattle.bptree_invariant.proofs.Walk.{flat-append}
 
 pub by_size : {P : Type 0} (n most : ℕ) → (n ≤ most → P) → (most < n → P) → P
 by_size {P = P} n most few many =
@@ -35,7 +35,7 @@ by_size {P = P} n most few many =
       | inr less ↦ (let short : min n (most + 1) < most + 1 = less in few (omega (arith, short)))
     ]
 
--- what is known of the number of pairs that a leaf takes
+-- facts about the number of pairs that a leaf takes
 pub record IsSized (left size : ℕ) : Type 0 where
   pub within : size ≤ left
   pub most : size ≤ 64
@@ -85,7 +85,7 @@ module _ {X : Type 0} where
   parts_some l [] are some = absurd (omega (arith, ap length are, some))
   parts_some l (p ∷ ps) are some = omega arith
 
-  -- the same by places in a longer list
+  -- one part more, by indexes of a longer list
   pub part_next : (l all : List X) (ps : List (List X)) (from to size : ℕ) → AreParts l ps (drop from all) → IsSize (length all - from) size → from + size ≡ to → from < length all → AreParts l (ps ++ part all from (to - from) ∷ []) (drop to all)
   part_next l all ps from to size are sized sum some =
       let more = parts_more l ps (drop from all) size are (subst (λ n. IsSize n size) (sym (length-drop from all)) sized) (omega (arith, length-drop from all, some)) in
@@ -99,7 +99,7 @@ module _ {X : Type 0} where
       let same = one_size (length items) m n size' size in
       (ps, ap (λ q. q ∷ ps) (is ∙ ap (λ k. take k items) same), subst (λ k. AreParts (drop k items) ps []) same are)
 
-  -- no part is left where no member is
+  -- no part is left if no member is
   pub no_part : (items : List X) (rest : List (List X)) → AreParts items rest [] → length items ≡ 0 → rest ≡ []
   no_part items [] are none = refl
   no_part items (p ∷ ps) (n, size, some, is, are) none = absurd (omega (arith, some, none))
@@ -119,8 +119,8 @@ all_laid {cmp = cmp} {pairs = pairs} laid =
 
 module _ {K V A : Type 0} {cmp : K → K → Ordering} (is_summary : A → List K → Type 0) (slots : Slots (Inner K A) (Leaf K V)) (h : ℕ) (root : NodeId) (shape : IsWellShaped cmp is_summary slots h root) where
   -- the pairs from a position on are those of its leaf, and then others
-  pub from_place : (leaf : LeafNodeId) (in' : StandsIn slots h root leaf) (slot : ℕ) → drop (start slots h root leaf + slot) (pairs_at slots h root) ≡ drop slot (leaf_pairs (slots.leaf leaf.0) ++ pairs_of slots in'.after)
-  from_place leaf in' slot =
+  pub from_index : (leaf : LeafNodeId) (in' : IsLeafOf slots h root leaf) (slot : ℕ) → drop (start slots h root leaf + slot) (pairs_at slots h root) ≡ drop slot (leaf_pairs (slots.leaf leaf.0) ++ pairs_of slots in'.after)
+  from_index leaf in' slot =
       let here = leaf_pairs (slots.leaf leaf.0) ++ pairs_of slots in'.after in
       let all : pairs_at slots h root ≡ pairs_of slots in'.before ++ here = sym (pairs_of_leaves slots h root) ∙ (ap (pairs_of slots) in'.leaves ∙ flat-append (λ (l : LeafNodeId). leaf_pairs (slots.leaf l.0)) in'.before (leaf ∷ in'.after)) in
       ap (λ n. drop (n + slot) (pairs_at slots h root)) (start_is is_summary slots h root shape leaf in') ∙ (ap (drop (length (pairs_of slots in'.before) + slot)) all ∙ drop-append-add (pairs_of slots in'.before) here slot)

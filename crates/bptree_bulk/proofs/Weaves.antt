@@ -68,7 +68,7 @@ module _ {K V : Type 0} (cmp : K → K → Ordering) where
       let more = woven_length s (first_rest x a) (second_rest x b) a' b' goes.1 in
       omega (arith, one, more, length-append (step_pair x a b) (woven s (first_rest x a) (second_rest x b)))
 
-  -- steps that take all are no more than the pairs of both
+  -- the steps that take all pairs are at most as many as the pairs of both lists
   pub step_shrinks : (x : Source) (a b : List (K × V)) → next_source cmp a b ≡ Some x → 1 + (length (first_rest x a) + length (second_rest x b)) ≤ length a + length b
   step_shrinks x [] [] is = absurd (let z : None ≡ Some x = is in cc)
   step_shrinks First [] (q ∷ b) is = absurd (let z : Some Second ≡ Some First = is in cc)
@@ -88,13 +88,13 @@ module _ {K V : Type 0} (cmp : K → K → Ordering) where
 some_same : (x y : Source) → Some x ≡ Some y → x ≡ y
 some_same x y same = cc
 
--- there is a step where a pair is
+-- some step is taken if there is a pair
 pub some_steps : {K V : Type 0} (cmp : K → K → Ordering) (s : List Source) (a b : List (K × V)) → Weaves cmp s a b → 0 < length a → 0 < length s
 some_steps cmp [] a b goes some = absurd (omega (arith, ap length goes.0, some))
 some_steps cmp (x ∷ s) a b goes some = omega arith
 
 module _ {K V : Type 0} (cmp : K → K → Ordering) (total : IsTotalOrder cmp) where
-  -- a pair stays first where greater ones are put
+  -- a pair stays first when a greater one is put
   put_behind : (p q : K × V) (l : List (K × V)) → cmp p.0 q.0 ≡ Less → put_pair cmp (p ∷ l) q ≡ p ∷ put_pair cmp l q
   put_behind p q l less =
       ap (λ m. put cmp (p ∷ m) q.0 q.1) (sym (append-nil l))
@@ -108,7 +108,7 @@ module _ {K V : Type 0} (cmp : K → K → Ordering) (total : IsTotalOrder cmp) 
   put_before : (q : K × V) (l : List (K × V)) → AllByRecursion (λ p. cmp p.0 q.0 ≡ Greater) l → put_pair cmp l q ≡ q ∷ l
   put_before q l all = put_around cmp q.0 [] [] l tt all q.1
 
-  -- an equal key takes the value
+  -- an equal key takes the value of the pair that is put
   put_at : (p q : K × V) (l : List (K × V)) → cmp p.0 q.0 ≡ Equal → AllByRecursion (λ p. cmp p.0 q.0 ≡ Greater) l → put_pair cmp (p ∷ l) q ≡ (p.0, q.1) ∷ l
   put_at p q l equal all = put_around cmp q.0 [] (p ∷ []) l tt all q.1 ∙ rw equal refl
 
@@ -151,7 +151,7 @@ module _ {K V : Type 0} (cmp : K → K → Ordering) (total : IsTotalOrder cmp) 
     by_order Second Greater is same goes = by_second is goes
     by_order Both Greater is same goes = absurd (let z : Second ≡ Both = same in cc)
 
-  -- the pairs of steps that take all of two lists are those of the first with those of the second put
+  -- steps that take all of two lists make the first list with the second's pairs put
   pub woven_is : (s : List Source) (a b : List (K × V)) → IsAscending cmp a → IsAscending cmp b → Weaves cmp s a b → woven s a b ≡ put_all (put_pair cmp) a b
   woven_is [] a b up up' goes = sym goes.0 ∙ ap (put_all (put_pair cmp) a) (sym goes.1)
   woven_is (x ∷ s) [] [] up up' goes = absurd (let z : None ≡ Some x = goes.0 in cc)
@@ -166,19 +166,19 @@ module _ {K V : Type 0} (cmp : K → K → Ordering) (total : IsTotalOrder cmp) 
   woven_is (x ∷ s) (p ∷ a) (q ∷ b) up up' goes =
       by_order s (woven_is s) p a q b up up' x (cmp p.0 q.0) refl (some_same (source_by (cmp p.0 q.0)) x goes.0) goes.1
 
-  -- pairs that ascend are what an empty list becomes where they are put
+  -- putting the pairs of an ascending list into an empty list makes that list
   pub put_none : (b : List (K × V)) → IsAscending cmp b → put_all (put_pair cmp) [] b ≡ b
   put_none [] up = refl
   put_none (q ∷ b) up = ap (λ m. put_all (put_pair cmp) m b) (put_before q [] tt) ∙ (behind q [] b (below_all q b up) ∙ ap (λ m. q ∷ m) (put_none b (sorted_tail cmp q.0 (keys_of b) up)))
 
-  -- pairs whose keys are above all others come behind them
+  -- putting pairs whose keys are above all others appends them
   pub put_above : (a b : List (K × V)) → IsAscending cmp (a ++ b) → put_all (put_pair cmp) a b ≡ a ++ b
   put_above [] b up = put_none b up
   put_above (p ∷ a) b up =
       let above = AllByRecursion-right (λ (q : K × V). cmp p.0 q.0 ≡ Less) a b (below_all p (a ++ b) up) in
       behind p a b above ∙ ap (λ m. p ∷ m) (put_above a b (sorted_tail cmp p.0 (keys_of (a ++ b)) up))
 
-  -- and those whose keys are below all others come before them
+  -- putting pairs whose keys are below all others prepends them
   pub put_below : (a b : List (K × V)) → IsAscending cmp (b ++ a) → put_all (put_pair cmp) a b ≡ b ++ a
   put_below a [] up = refl
   put_below a (q ∷ b) up =
@@ -194,7 +194,7 @@ module _ {K V : Type 0} (cmp : K → K → Ordering) (total : IsTotalOrder cmp) 
   pub woven_ascends : (s : List Source) (a b : List (K × V)) → IsAscending cmp a → IsAscending cmp b → Weaves cmp s a b → IsAscending cmp (woven s a b)
   woven_ascends s a b up up' goes = subst (IsAscending cmp) (sym (woven_is s a b up up' goes)) (put_all_ascends a b up)
 
--- the key at a place of a leaf is the next of all from there on
+-- the key at a slot of a leaf is the next of all keys from there on
 pub keys_here : {K V : Type 0} (pairs rest : List (K × V)) (i : ℕ) → i < length pairs → keys_of (take 1 (drop i (pairs ++ rest))) ≡ take 1 (drop i (keys_of pairs))
 keys_here [] rest i less = absurd (omega (arith, less))
 keys_here (p ∷ pairs) rest zero less = refl

@@ -18,7 +18,7 @@ one_from_each : (n m : ℕ) → n - m ≡ suc n - suc m
 one_from_each n m = omega arith
 
 module _ {X : Type 0} where
-  -- the same indexes, the same members
+  -- equal indexes leave equal members
   same_part : (m m' n n' : ℕ) (l : List X) → m ≡ m' → n ≡ n' → without_part m n l ≡ without_part m' n' l
   same_part m m' n n' l from to = ap (λ k. take k l ++ drop n l) from ∙ ap (λ k. take m' l ++ drop k l) to
 
@@ -31,7 +31,7 @@ module _ {X : Type 0} where
   drop_on zero (x ∷ l) rest = ap (λ k. x ∷ (l ++ drop k rest)) (none_from (suc (length l)))
   drop_on (suc n) (x ∷ l) rest = drop_on n l rest ∙ ap (λ k. drop n l ++ drop k rest) (one_from_each n (length l))
 
-  -- the first member stays where some stay before those that go
+  -- the first member stays if some members stay before those that go
   pub stays_before : (m n : ℕ) (x : X) (l : List X) → 0 < m → m ≤ n → without_part m n (x ∷ l) ≡ x ∷ without_part (m - 1) (n - 1) l
   stays_before m n x l some order = ap (λ r. r ++ drop n (x ∷ l)) (take_one m x l some) ∙ ap (λ r. x ∷ (take (m - 1) l ++ r)) (drop_one n x l (omega (arith, some, order)))
 

@@ -11,8 +11,8 @@ use Rattle.bptree_bulk.proofs.Segments.{drop_more}
 use Rattle.bptree_bulk.proofs.Tails.{parts_more}
 use Rattle.bptree_bulk.proofs.Weaves.{goes_apart, goes_joined, goes_same, woven_ascends, woven_joined, woven_length, Apart}
 use Rattle.bptree_keys.specs.Contents.{IsAscending}
-use Rattle.bptree_shape.proofs.Ordered.{ascending_after}
-use Rattle.bptree_shape.proofs.Spot.{ascending_before}
+use Rattle.bptree_invariant.proofs.Ordered.{ascending_after}
+use Rattle.bptree_invariant.proofs.Spot.{ascending_before}
 
 -- so many of the steps lead from two lists to what the other steps take
 pub record IsUnderway {K V : Type 0} (cmp : K → K → Ordering) (steps : List Source) (A B : List (K × V)) (n : ℕ) (a b : List (K × V)) : Type 0 where

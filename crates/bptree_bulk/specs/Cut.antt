@@ -1,43 +1,43 @@
 -- The leaves of a tree on both sides of a cut, and the leaves that are built of those at the cut.
 use Rattle.std.specs.Prelude.{◌≡◌, ℕ, zero, suc, ◌+◌, ◌<◌, ◌≤◌, List, [], ◌∷◌, ◌++◌, Option, None, Some, length, map, take, drop}
 use Rattle.std.specs.List.{AllByRecursion}
-use Rattle.bptree_building.specs.Rooms.{pairs_under}
+use Rattle.bptree_bulk_load.specs.Rooms.{pairs_under}
 use Rattle.bptree_bulk.specs.declared.cut.Cut.{Cut}
 use Rattle.bptree_keys.specs.Ranges.{part}
 use Rattle.bptree_keys.specs.declared.node_id.LeafNodeId.{LeafNodeId}
 use Rattle.bptree_nodes.specs.Inner.{Inner}
 use Rattle.bptree_nodes.specs.Leaf.{Leaf}
 use Rattle.bptree_nodes.specs.Slot.{Slots}
-use Rattle.bptree_shape.specs.Leaves.{pairs_of}
+use Rattle.bptree_invariant.specs.Leaves.{pairs_of}
 
 -- the key of the first pair
 abbrev pub first_key : {K V : Type 0} → List (K × V) → Option K
 first_key [] = None
 first_key (pair ∷ pairs) = Some pair.0
 
--- a list whole, or in two pieces of which the first has so many members
+-- a list as one piece, or as two pieces of which the first has so many members
 abbrev pub pieces : {X : Type 0} → ℕ → List X → List (List X)
 pieces zero l = l ∷ []
 pieces (suc n) l = take (suc n) l ∷ drop (suc n) l ∷ []
 
--- 0 where one leaf holds so many pairs, or else how many the first of two leaves takes
+-- 0 if one leaf holds so many pairs; otherwise the number that the first of two leaves takes
 pub record IsHalf (count half : ℕ) : Type 0 where
   pub one : half ≡ 0 → count ≤ 64
   pub two : 0 < half → (16 ≤ half) × (half ≤ 64) × (half + 16 ≤ count) × (count ≤ half + 64)
 
 module _ {K V A : Type 0} (slots : Slots (Inner K A) (Leaf K V)) (ids : List LeafNodeId) where
-  -- how many pairs are before a leaf
+  -- the number of pairs before the leaf at an index
   abbrev pub pairs_before : ℕ → ℕ
   pairs_before i = length (pairs_of slots (take i ids))
 
-  -- the border begins at this leaf, which is the one before another where there is one, and so many pairs are between them
+  -- the border begins at leaf `from`, at leaf `i` or before it, and `count` pairs are between them
   pub record BeginsBorder (i from count : ℕ) : Type 0 where
     pub order : from ≤ i
     pub sum : pairs_before i ≡ pairs_before from + count
     pub most : count ≤ 64
     pub enough : 0 < i → (least : ℕ) → AllByRecursion (λ id. least ≤ length (pairs_under slots id)) ids → least ≤ count
 
-  -- the border ends at this leaf, which is the one behind another where there is one, and so many pairs are between them
+  -- the border ends at leaf `to`, at leaf `i` or behind it, and `count` pairs are between them
   pub record EndsBorder (i to count : ℕ) : Type 0 where
     pub order : i ≤ to
     pub within : to ≤ length ids
@@ -49,7 +49,7 @@ module _ {K V A : Type 0} (slots : Slots (Inner K A) (Leaf K V)) (ids : List Lea
   abbrev pub from_cut : Cut → List (K × V)
   from_cut cut = pairs_of slots (drop cut.from ids)
 
-  -- the leaves before the border move as they are, and so do those behind it; the border's pairs are of both sides
+  -- the leaves before and behind the border move whole; the border's pairs are on both sides
   pub record IsCut (cut : Cut) : Type 0 where
     pub order : cut.from ≤ cut.to
     pub within : cut.to ≤ length ids
@@ -61,7 +61,7 @@ module _ {K V A : Type 0} (slots : Slots (Inner K A) (Leaf K V)) (ids : List Lea
     pub below_half : IsHalf cut.below cut.below_half
     pub above_half : IsHalf cut.above cut.above_half
 
-  -- how many pairs are before the cut
+  -- the number of pairs before the cut
   abbrev pub cut_at : Cut → ℕ
   cut_at cut = pairs_before cut.from + cut.below
 

@@ -4,19 +4,19 @@ use Rattle.std.specs.List.{AllByRecursion}
 use Rattle.std.specs.declared.alloc.Global.{Global}
 use Rattle.std.specs.declared.boxed.Box.{Box}
 use Rattle.std.specs.declared.cmp.Ordering.{Ordering}
-use Rattle.bptree_building.specs.Rooms.{parts_of, ArePlanned, IsFrame}
-use Rattle.bptree_building.specs.declared.plan.Plan.{Plan}
+use Rattle.bptree_bulk_load.specs.Rooms.{parts_of, ArePlanned, IsFrame}
+use Rattle.bptree_bulk_load.specs.declared.plan.Plan.{Plan}
 use Rattle.bptree_bulk.specs.Positions.{rest_of}
-use Rattle.bptree_bulk.specs.Split.{HasRoomFor}
+use Rattle.bptree_bulk.specs.Split.{HasLeavesFor}
 use Rattle.bptree_bulk.specs.declared.filling.Filling.{Filling}
 use Rattle.bptree_keys.specs.Contents.{IsAscending}
 use Rattle.bptree_keys.specs.declared.node_id.Position.{Position}
 use Rattle.bptree_nodes.specs.Inner.{Inner}
 use Rattle.bptree_nodes.specs.Leaf.{Leaf}
 use Rattle.bptree_nodes.specs.Slot.{Slots}
-use Rattle.bptree_shape.specs.NodeTree.{NodeTree}
+use Rattle.bptree_invariant.specs.NodeTree.{NodeTree}
 
--- how many of so many pairs the next leaf takes
+-- the number of pairs, of so many, that the next leaf takes
 pub record IsSize (left size : ℕ) : Type 0 where
   pub all : left ≤ 64 → size ≡ left
   pub half : 64 < left → left ≤ 128 → size ≡ 32
@@ -31,7 +31,7 @@ AreParts l (p ∷ ps) rest = (n : ℕ) × IsSize (length l) n × (0 < length l) 
 abbrev pub IsEmptyLeaf : {K V : Type 0} → Box (Leaf K V) Global → Type 0
 IsEmptyLeaf leaf = leaf.value.pairs ≡ []
 
--- an empty leaf is there for each part of these pairs
+-- there is an empty leaf for each part of these pairs
 abbrev pub HaveRooms : {K V : Type 0} → List (K × V) → List (Box (Leaf K V) Global) → Type 0
 HaveRooms {K} {V} pairs rooms = (parts : List (List (K × V))) × AreParts pairs parts [] × (length rooms ≡ length parts)
 
@@ -40,7 +40,7 @@ abbrev pub TakeParts : {K V : Type 0} → List (K × V) → List (Box (Leaf K V)
 TakeParts {K} {V} pairs old new = (parts : List (List (K × V))) → AreParts pairs parts [] → parts_of new ≡ parts_of old ++ parts
 
 module _ {S K V A : Type 0} (cmp : K → K → Ordering) (is_summary : A → List K → Type 0) (slots : S → Slots (Inner K A) (Leaf K V)) where
-  -- a leaf is planned for each part of these pairs, which are so many, and as many empty leaves are there
+  -- a leaf is planned for each part of these pairs, and there are as many empty leaves
   pub record IsLaidOut (plan : Plan S K V A) (rooms : List (Box (Leaf K V) Global)) (count : ℕ) (pairs : List (K × V)) : Type 0 where
     pub parts : List (List (K × V))
     pub are : AreParts pairs parts []
@@ -52,14 +52,14 @@ module _ {S K V A : Type 0} (cmp : K → K → Ordering) (is_summary : A → Lis
     pub ascending : IsAscending cmp pairs
     pub few : count < 2 ^ 64
 
-  -- everything is found to move these pairs to a tree of their own
+  -- everything is ready to move these pairs to a tree of their own
   pub record IsFilling (filling : Filling S K V A) (pairs : List (K × V)) : Type 0 where
     pub parts : List (List (K × V))
     pub are : AreParts pairs parts []
     pub framed : IsFrame cmp is_summary (slots filling.frame.store) filling.frame.ids.items filling.frame.built parts
     pub empty : AllByRecursion IsEmptyLeaf filling.rooms.items
     pub as_many : length filling.rooms.items ≡ length parts
-    pub leaves : HasRoomFor (length parts) filling.leaves
+    pub leaves : HasLeavesFor (length parts) filling.leaves
     pub count : filling.count ≡ length pairs
     pub ascending : IsAscending cmp pairs
 
@@ -67,7 +67,7 @@ module _ {S K V A : Type 0} (cmp : K → K → Ordering) (is_summary : A → Lis
   abbrev pub AreLaidOut : Plan S K V A → List (Box (Leaf K V) Global) → ℕ → Type 0
   AreLaidOut plan rooms count = (pairs : List (K × V)) × IsLaidOut plan rooms count pairs
 
-  -- a call that succeeded finds everything to move the pairs that the leaves of a plan are for
+  -- a call that succeeded prepares everything to move the pairs that the leaves of a plan are for
   abbrev pub Fills : {E : Type 0} → Plan S K V A → List (Box (Leaf K V) Global) → ℕ → Result (Filling S K V A) E → Type 0
   Fills plan rooms count result = IfOk result (λ filling. (pairs : List (K × V)) → IsLaidOut plan rooms count pairs → IsFilling filling pairs)
 

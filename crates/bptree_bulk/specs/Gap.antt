@@ -11,13 +11,13 @@ use Rattle.bptree_nodes.specs.Slot.{Slots}
 abbrev pub without_part : {X : Type 0} → ℕ → ℕ → List X → List X
 without_part from to l = take from l ++ drop to l
 
--- those of the first members that stay
+-- the first members without those of the gap
 abbrev pub kept_of : {X : Type 0} → Gap → List X → List X
 kept_of gap l = take gap.count (without_part gap.before gap.behind l)
 
 module _ {K V A : Type 0} (slots : Slots (Inner K A) (Leaf K V)) (ids : List LeafNodeId) where
-  -- the leaves before the border stay as they are, and so do those behind it; of the border's pairs the first ones stay, and
-  -- those from an index on
+  -- the leaves before and behind the border stay whole; of the border's pairs the first ones stay,
+  -- and those from an index on
   pub record IsGap (gap : Gap) : Type 0 where
     pub order : gap.from < gap.to
     pub within : gap.to ≤ length ids
@@ -28,7 +28,7 @@ module _ {K V A : Type 0} (slots : Slots (Inner K A) (Leaf K V)) (ids : List Lea
     pub enough_before : 0 < gap.from → 16 ≤ gap.count
     pub enough_behind : gap.to < length ids → 16 ≤ gap.count
 
-  -- how many pairs are before those that go, and how many are before the end of these
+  -- the number of pairs before those that go, and the number before the end of these
   abbrev pub gap_begins : Gap → ℕ
   gap_begins gap = pairs_before slots ids gap.from + gap.before
 

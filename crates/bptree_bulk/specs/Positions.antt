@@ -6,34 +6,34 @@ use Rattle.bptree_keys.specs.declared.node_id.Position.{Position}
 use Rattle.bptree_nodes.specs.Inner.{Inner}
 use Rattle.bptree_nodes.specs.Leaf.{Leaf}
 use Rattle.bptree_nodes.specs.Slot.{Slots}
-use Rattle.bptree_ranges.specs.Ranges.{place_on, IsSettled}
-use Rattle.bptree_shape.specs.Leaves.{pairs_of}
-use Rattle.bptree_shape.specs.NodeTree.{NodeTree}
+use Rattle.bptree_ranges.specs.Ranges.{index_on, IsSettled}
+use Rattle.bptree_invariant.specs.Leaves.{pairs_of}
+use Rattle.bptree_invariant.specs.NodeTree.{NodeTree}
 
 module _ {S K V A : Type 0} (slots : S → Slots (Inner K A) (Leaf K V)) (tree : NodeTree S K V A) where
-  -- how many pairs are before a position
-  abbrev pub place_of : Position → ℕ
-  place_of at = place_on (slots tree.store) tree.height tree.root at
+  -- the number of pairs before a position
+  abbrev pub index_of_position : Position → ℕ
+  index_of_position at = index_on (slots tree.store) tree.height tree.root at
 
   -- the pairs from a position on
   abbrev pub rest_of : Position → List (K × V)
-  rest_of at = drop (place_of at) tree.contents
+  rest_of at = drop (index_of_position at) tree.contents
 
-  -- a pair is at the position, or it is the end of all
+  -- the position is that of a pair, or the end
   abbrev pub IsAtPair : Position → Type 0
-  IsAtPair at = IsSettled (slots tree.store) tree.height tree.root (place_of at) at
+  IsAtPair at = IsSettled (slots tree.store) tree.height tree.root (index_of_position at) at
 
   -- pairs are before a position, and one is at it or behind it
   abbrev pub IsInside : Position → Type 0
-  IsInside at = (0 < place_of at) × (place_of at < length tree.contents)
+  IsInside at = (0 < index_of_position at) × (index_of_position at < length tree.contents)
 
   -- the pairs from one position up to another
   abbrev pub part_to : Position → Position → List (K × V)
-  part_to from to = part tree.contents (place_of from) (place_of to - place_of from)
+  part_to from to = part tree.contents (index_of_position from) (index_of_position to - index_of_position from)
 
-  -- so many pairs are from a position on
+  -- so many pairs are at a position and behind it
   abbrev pub IsRest : Position → ℕ → Type 0
-  IsRest at count = place_of at + count ≡ length tree.contents
+  IsRest at count = index_of_position at + count ≡ length tree.contents
 
   -- the pairs of these leaves are the last ones
   abbrev pub AreLast : List LeafNodeId → Type 0
@@ -42,5 +42,5 @@ module _ {S K V A : Type 0} (slots : S → Slots (Inner K A) (Leaf K V)) (tree :
   -- a position is so many pairs behind another, but for those that are missing at the end of all
   pub record IsBehind (from : Position) (count : ℕ) (at : Position) (missing : ℕ) : Type 0 where
     pub settled : IsAtPair at
-    pub sum : place_of at + missing ≡ place_of from + count
-    pub end : 0 < missing → place_of at ≡ length tree.contents
+    pub sum : index_of_position at + missing ≡ index_of_position from + count
+    pub end : 0 < missing → index_of_position at ≡ length tree.contents

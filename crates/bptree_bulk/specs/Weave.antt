@@ -5,8 +5,8 @@ use Rattle.std.specs.declared.vec.Vec.{Vec}
 use Rattle.std.specs.declared.cmp.Ordering.TheVariants.{Less, Equal, Greater}
 use Rattle.bptree_bulk.specs.Filling.{IsFilling}
 use Rattle.bptree_bulk.specs.Positions.{rest_of, IsAtPair}
-use Rattle.bptree_bulk.specs.Split.{HasRoomFor}
-use Rattle.bptree_bulk.specs.declared.weaving.Places.{Places}
+use Rattle.bptree_bulk.specs.Split.{HasLeavesFor}
+use Rattle.bptree_bulk.specs.declared.weaving.Steps.{Steps}
 use Rattle.bptree_bulk.specs.declared.weaving.Source.{Source}
 use Rattle.bptree_bulk.specs.declared.weaving.Source.TheVariants.{First, Second, Both}
 use Rattle.bptree_bulk.specs.declared.weaving.Weave.{Weave}
@@ -14,25 +14,25 @@ use Rattle.bptree_keys.specs.Contents.{put, IsAscending}
 use Rattle.bptree_nodes.specs.Inner.{Inner}
 use Rattle.bptree_nodes.specs.Leaf.{Leaf}
 use Rattle.bptree_nodes.specs.Slot.{Slots}
-use Rattle.bptree_shape.specs.NodeTree.{NodeTree}
+use Rattle.bptree_invariant.specs.NodeTree.{NodeTree}
 
--- with a pair put: its key's value is the pair's
+-- a list with a pair put: the pair's value becomes its key's value
 abbrev pub put_pair : {K V : Type 0} → (K → K → Ordering) → List (K × V) → K × V → List (K × V)
 put_pair cmp l pair = put cmp l pair.0 pair.1
 
--- with the members of another list put, one after another
+-- a list with the members of another list put, one after another
 abbrev pub put_all : {X : Type 0} → (List X → X → List X) → List X → List X → List X
 put_all put_one l [] = l
 put_all put_one l (x ∷ xs) = put_all put_one (put_one l x) xs
 
--- where the next pair comes from, by the order of both next keys
+-- the source of the next pair, by the order of both next keys
 abbrev pub source_by : Ordering → Source
 source_by Less = First
 source_by Equal = Both
 source_by Greater = Second
 
 module _ {K V : Type 0} where
-  -- where the next pair comes from, if there is one
+  -- the source of the next pair, if there is one
   abbrev pub next_source : (K → K → Ordering) → List (K × V) → List (K × V) → Option Source
   next_source cmp [] [] = None
   next_source cmp [] (q ∷ b) = Some Second
@@ -77,49 +77,49 @@ module _ {K V : Type 0} where
   Weaves cmp steps a b = Goes cmp steps a b [] []
 
 module _ {S K V A : Type 0} (slots : S → Slots (Inner K A) (Leaf K V)) (first second : NodeTree S K V A) where
-  -- a pair is at both positions, or they are the end
-  abbrev pub ArePlaces : Places → Type 0
-  ArePlaces at = IsAtPair slots first at.first × IsAtPair slots second at.second
+  -- both positions are those of pairs, or the end
+  abbrev pub AreIndexes : Steps → Type 0
+  AreIndexes at = IsAtPair slots first at.first × IsAtPair slots second at.second
 
-  -- the pairs from there on are these
-  abbrev pub Leaves : Places → List (K × V) → List (K × V) → Type 0
+  -- the pairs from both positions on are these
+  abbrev pub Leaves : Steps → List (K × V) → List (K × V) → Type 0
   Leaves at a b = (rest_of slots first at.first ≡ a) × (rest_of slots second at.second ≡ b)
 
   module _ (cmp : K → K → Ordering) where
-    -- where the next pair comes from, if there is one
-    abbrev pub next_from : Places → Option Source
+    -- the source of the next pair, if there is one
+    abbrev pub next_from : Steps → Option Source
     next_from at = next_source cmp (rest_of slots first at.first) (rest_of slots second at.second)
 
     -- the next pair is of this source
-    abbrev pub IsNext : Places → Source → Type 0
+    abbrev pub IsNext : Steps → Source → Type 0
     IsNext at source = next_from at ≡ Some source
 
-    -- so many steps lead from one to the other
-    abbrev pub Leads : List Source → Places → Places → Type 0
+    -- the steps lead from one pair of positions to another
+    abbrev pub Leads : List Source → Steps → Steps → Type 0
     Leads steps from to = Goes cmp steps (rest_of slots first from.first) (rest_of slots second from.second) (rest_of slots first to.first) (rest_of slots second to.second)
 
-    -- so many steps lead somewhere
-    abbrev pub LeadsOn : List Source → Places → Type 0
-    LeadsOn steps from = (to : List (K × V) × List (K × V)) × Goes cmp steps (rest_of slots first from.first) (rest_of slots second from.second) to.0 to.1
+    -- the steps lead to some rest of both lists
+    abbrev pub WeaveLeadsOn : List Source → Steps → Type 0
+    WeaveLeadsOn steps from = (to : List (K × V) × List (K × V)) × Goes cmp steps (rest_of slots first from.first) (rest_of slots second from.second) to.0 to.1
 
-    -- the steps take all pairs of both
+    -- the steps take all pairs of both trees
     abbrev pub WeavesAll : {Z : Type 0} → Vec Source Z → Type 0
     WeavesAll steps = Weaves cmp steps.items first.contents second.contents
 
-  -- the pair of a step there
-  abbrev pub pair_from : Source → Places → List (K × V)
+  -- the pair of a step from these positions
+  abbrev pub pair_from : Source → Steps → List (K × V)
   pair_from source at = step_pair source (rest_of slots first at.first) (rest_of slots second at.second)
 
-  -- the pairs of the steps from there on
-  abbrev pub woven_from : List Source → Places → List (K × V)
+  -- the pairs of the steps from these positions on
+  abbrev pub woven_from : List Source → Steps → List (K × V)
   woven_from steps at = woven steps (rest_of slots first at.first) (rest_of slots second at.second)
 
-  -- their keys ascend
-  abbrev pub AscendsFrom : (K → K → Ordering) → List Source → Places → Type 0
+  -- the keys of the steps' pairs ascend
+  abbrev pub AscendsFrom : (K → K → Ordering) → List Source → Steps → Type 0
   AscendsFrom cmp steps at = IsAscending cmp (woven_from steps at)
 
-  -- everything is found to make one tree of both
+  -- everything is ready to make one tree of both
   pub record IsWeave (cmp : K → K → Ordering) (is_summary : A → List K → Type 0) (weave : Weave S K V A) : Type 0 where
     pub weaves : Weaves cmp weave.steps.items first.contents second.contents
     pub fills : IsFilling cmp is_summary slots weave.filling (woven weave.steps.items first.contents second.contents)
-    pub room : HasRoomFor (length weave.steps.items) weave.filling.pairs
+    pub room : HasLeavesFor (length weave.steps.items) weave.filling.pairs

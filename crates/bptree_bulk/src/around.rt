@@ -1,23 +1,23 @@
 //! New leaves for the pairs on both sides of a gap.
 ghost use Rattle.std.specs.Prelude.{◌+◌, ◌<◌, ◌≤◌, length, IfOk};
 ghost use Rattle.std.specs.List.{AllByRecursion};
-ghost use Rattle.bptree_building.specs.Rooms.{IsPresentAt};
+ghost use Rattle.bptree_bulk_load.specs.Rooms.{IsPresentAt};
 ghost use Rattle.bptree_bulk.specs.Around.{pairs_around, AddsAcross, AddsAround, PlansBorder, SumsUpPart};
 ghost use Rattle.bptree_bulk.specs.Gap.{kept_of};
 ghost use Rattle.bptree_bulk.specs.Positions.{AreLast};
-ghost use Rattle.bptree_shape.specs.Leaves.{pairs_of};
+ghost use Rattle.bptree_invariant.specs.Leaves.{pairs_of};
 
 use crate::cut::key_at;
 use crate::filling::size_of;
 use crate::gap::Gap;
 use crate::side::plan_piece;
 use bptree_arguments::argument::Argument;
-use bptree_building::plan::{Plan, plan_part};
+use bptree_bulk_load::plan::{Plan, plan_part};
+use bptree_invariant::nodes::Nodes;
 use bptree_keys::key::Key;
 use bptree_keys::node_id::LeafNodeId;
 use bptree_nodes::leaf_node::LeafNode;
 use bptree_ranges::summaries::summary_between;
-use bptree_shape::nodes::Nodes;
 use bptree_stores::node_stores::NodeStore;
 use std::alloc::AllocError;
 
@@ -72,7 +72,7 @@ fn plan_across<S: NodeStore>(
     plan_part(plan, start, summary)
 }
 
-// Plans a leaf behind others, for `count` of the pairs of some of the tree's last leaves that stay:
+// Plans a leaf behind others, for the `count` pairs that stay of some of the tree's last leaves:
 // those before the index `before`, and those from the index `behind` on.
 fn plan_around<S: NodeStore>(
     plan: &mut Plan<S>,
@@ -102,10 +102,10 @@ fn plan_around<S: NodeStore>(
     plan_across(plan, tree, ids, before, behind, one, count - one)
 }
 
-/// Plans leaves behind others, for the pairs of a border that stay, and finds an empty leaf for each.
-/// `ids` are the leaves from the border on.
+/// Plans leaves behind others, for the pairs of a border that stay, and allocates an empty leaf for
+/// each. `ids` are the leaves from the border on.
 ///
-/// For each new leaf it clones a key and computes a summary of its keys, and fails where one of these
+/// For each new leaf it clones a key and computes a summary of its keys. It fails if one of these
 /// or an allocation fails.
 pub(crate) fn plan_border<S: NodeStore>(
     plan: &mut Plan<S>,

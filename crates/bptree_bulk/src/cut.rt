@@ -1,36 +1,36 @@
-//! Where the leaves of a tree are cut in two.
+//! Cuts between the leaves of a tree.
 ghost use Rattle.std.specs.Prelude.{◌≡◌, ◌+◌, ◌<◌, ◌≤◌, length, drop};
 ghost use Rattle.std.specs.List.{AllByRecursion};
 ghost use Rattle.std.specs.Option.{option_copied};
-ghost use Rattle.bptree_building.specs.Rooms.{IsPresentAt};
+ghost use Rattle.bptree_bulk_load.specs.Rooms.{IsPresentAt};
 ghost use Rattle.bptree_bulk.specs.Cut.{cut_at, first_key, BeginsBorder, EndsBorder, IsCut, IsHalf};
-ghost use Rattle.bptree_bulk.specs.Positions.{place_of, IsInside};
-ghost use Rattle.bptree_ranges.specs.InTree.{HasPlace};
+ghost use Rattle.bptree_bulk.specs.Positions.{index_of_position, IsInside};
+ghost use Rattle.bptree_ranges.specs.InTree.{HasPosition};
 ghost use Rattle.bptree_ranges.specs.Ranges.{ahead};
-ghost use Rattle.bptree_shape.specs.Leaves.{pairs_of, StandsIn};
-ghost use Rattle.bptree_shape.specs.Shape.{leaves_at};
+ghost use Rattle.bptree_invariant.specs.Leaves.{pairs_of, IsLeafOf};
+ghost use Rattle.bptree_invariant.specs.Shape.{leaves_at};
 
+use bptree_invariant::nodes::Nodes;
 use bptree_keys::node_id::{LeafNodeId, Position};
 use bptree_nodes::leaf_node::LEAF_CAPACITY;
-use bptree_shape::nodes::Nodes;
 use bptree_stores::node_stores::NodeStore;
 
-/// A cut between two pairs. The leaves before `from` and from `to` on move as they are. The pairs of
-/// the leaves between them, the border, move to other leaves.
+/// A cut between two pairs. The leaves before `from` and from `to` on move as they are. The pairs
+/// of the leaves between them, the border, move to other leaves.
 #[derive(Clone, Copy, Drop)]
 pub struct Cut {
     pub from: usize,
     pub to: usize,
-    /// How many pairs of the border are before the cut, and how many of them the first of two leaves
-    /// takes; 0 where one leaf takes all.
+    /// The number of the border's pairs before the cut, and how many of them the first of two
+    /// leaves takes; 0 if one leaf takes all.
     pub below: usize,
     pub below_half: usize,
-    /// The same of the pairs behind the cut.
+    /// The number of the border's pairs behind the cut, and how many of them the first leaf takes.
     pub above: usize,
     pub above_half: usize,
 }
 
-// How many pairs the first of two leaves takes; 0 where one leaf takes all.
+// The number of pairs that the first of two leaves takes; 0 if one leaf takes all.
 fn half_of(count: usize) -> usize
     requires { count ≤ 128 }
     ensures { IsHalf count result }
@@ -38,7 +38,7 @@ fn half_of(count: usize) -> usize
     if count <= LEAF_CAPACITY { 0 } else { count / 2 }
 }
 
-/// Where a leaf is among others.
+/// The index of a leaf in a list of leaves.
 pub(crate) fn index_of(ids: &[LeafNodeId], id: LeafNodeId) -> usize
     ensures { result ≡ length (ahead id.0 ids.now) }
 {
@@ -54,7 +54,7 @@ pub(crate) fn index_of(ids: &[LeafNodeId], id: LeafNodeId) -> usize
 
 /// The key of the pair with an index among the pairs of some leaves.
 ///
-/// It passes over the leaves before it.
+/// It passes over the leaves before that pair's.
 pub(crate) fn key_at<'a, S: NodeStore>(
     store: &'a S,
     ids: &[LeafNodeId],
@@ -76,7 +76,8 @@ pub(crate) fn key_at<'a, S: NodeStore>(
     None
 }
 
-/// The leaf before an index, if there is one: where the border begins, and how many pairs it adds.
+/// The index of the leaf before `i`, at which the border begins, and the number of pairs it adds;
+/// `i` and 0 if there is no leaf before `i`.
 pub(crate) fn leaf_before<S: NodeStore>(store: &S, ids: &[LeafNodeId], i: usize) -> (usize, usize)
     requires present { AllByRecursion (IsPresentAt (S.slots store.now)) ids.now }
     requires within { i ≤ length ids.now }
@@ -88,7 +89,8 @@ pub(crate) fn leaf_before<S: NodeStore>(store: &S, ids: &[LeafNodeId], i: usize)
     (i - 1, store.get_leaf(ids[i - 1]).len())
 }
 
-/// The leaf behind an index, if there is one: where the border ends, and how many pairs it adds.
+/// The index behind the leaf that follows `i`, at which the border ends, and the number of pairs
+/// that leaf adds; the end and 0 if no leaf follows.
 pub(crate) fn leaf_behind<S: NodeStore>(store: &S, ids: &[LeafNodeId], i: usize) -> (usize, usize)
     requires present { AllByRecursion (IsPresentAt (S.slots store.now)) ids.now }
     requires within { i < length ids.now }
@@ -106,10 +108,10 @@ pub(crate) fn leaf_behind<S: NodeStore>(store: &S, ids: &[LeafNodeId], i: usize)
 /// O(n / 32) for n pairs. It allocates nothing and cannot fail.
 pub(crate) fn cut_before<S: NodeStore>(tree: &Nodes<S>, ids: &[LeafNodeId], at: Position) -> Cut
     requires ids { ids.now ≡ leaves_at (S.slots tree.now.store) tree.now.height tree.now.root }
-    requires place { HasPlace S.slots tree.now at }
+    requires index { HasPosition S.slots tree.now at }
     requires inside { IsInside S.slots tree.now at }
     ensures cut { IsCut (S.slots tree.now.store) ids.now result }
-    ensures place { cut_at (S.slots tree.now.store) ids.now result ≡ place_of S.slots tree.now at }
+    ensures index { cut_at (S.slots tree.now.store) ids.now result ≡ index_of_position S.slots tree.now at }
 {
     tree.recall();
     let here = tree.store.get_leaf(at.leaf).len();

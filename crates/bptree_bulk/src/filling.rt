@@ -3,32 +3,34 @@ ghost use Rattle.std.specs.Prelude.{◌≡◌, ◌+◌, ◌≤◌, length, vec_c
 ghost use Rattle.std.specs.List.{AllByRecursion};
 ghost use Rattle.std.specs.Vec.Iter.{into_iter_items, into_iter_len};
 ghost use Rattle.bptree_bulk.specs.Filling.{AreLaidOut, Fills, HaveRooms, IsEmptyLeaf, IsFilling, IsSize, TakeParts};
-ghost use Rattle.bptree_bulk.specs.Split.{HasRoomFor};
-ghost use Rattle.bptree_shape.specs.NodeTree.{IsWhole};
+ghost use Rattle.bptree_bulk.specs.Split.{HasLeavesFor};
+ghost use Rattle.bptree_invariant.specs.NodeTree.{IsWhole};
 
 use crate::moving::fill_piece;
-use bptree_building::plan::{Plan, frame};
-use bptree_building::planting::{Frame, plant};
+use bptree_bulk_load::plan::{Plan, frame};
+use bptree_bulk_load::planting::{Frame, plant};
+use bptree_invariant::nodes::Nodes;
 use bptree_keys::key::Key;
 use bptree_nodes::leaf_node::{LEAF_CAPACITY, LeafNode};
-use bptree_shape::nodes::Nodes;
 use bptree_stores::node_stores::NodeStore;
 use std::alloc::AllocError;
 use std::vec::IntoIter;
 
-/// What is found before pairs move to the leaves of a new tree: the nodes above the leaves, the empty
-/// leaves, and the room for the list of the filled ones and for the pairs. Dropping it changes no tree.
+/// What is prepared before pairs move to the leaves of a new tree: the nodes above the leaves, the
+/// empty leaves, and the room for the list of the filled ones and for the pairs. Dropping it
+/// changes no tree.
 #[derive(Drop)]
 pub struct Filling<S: NodeStore> {
     pub(crate) frame: Frame<S>,
     pub(crate) rooms: Vec<Box<LeafNode<S::K, S::V>>>,
     pub(crate) leaves: Vec<Box<LeafNode<S::K, S::V>>>,
-    /// How many pairs move, and the room for them.
+    /// The number of pairs that move, and the room for them.
     pub count: usize,
     pub pairs: Vec<(S::K, S::V)>,
 }
 
-// How many of some pairs the next leaf takes. No leaf gets fewer than 32, but where it gets all.
+// The number of pairs, of `left`, that the next leaf takes. A leaf gets at least 32 pairs, or all
+// that are left.
 pub(crate) fn size_of(left: usize) -> usize
     ensures { IsSize left result }
 {
@@ -43,8 +45,8 @@ pub(crate) fn size_of(left: usize) -> usize
 
 /// All that is needed to fill the leaves of a plan: it has a leaf for each part of `count` pairs.
 ///
-/// It allocates the nodes above the leaves, and the room for the list of leaves and for the pairs. It
-/// fails where one of these does.
+/// It allocates the nodes above the leaves, and the room for the list of leaves and for the pairs.
+/// It fails if an allocation fails.
 pub(crate) fn filling_of<S: NodeStore>(
     plan: Plan<S>,
     rooms: Vec<Box<LeafNode<S::K, S::V>>>,
@@ -52,7 +54,7 @@ pub(crate) fn filling_of<S: NodeStore>(
 ) -> Result<Filling<S>, AllocError>
     requires { AreLaidOut S.K.cmp S.Argument.is_summary S.slots plan rooms.items count }
     ensures filling { Fills S.K.cmp S.Argument.is_summary S.slots plan rooms.items count result }
-    ensures room { IfOk result (λ filling. HasRoomFor filling.count filling.pairs) }
+    ensures room { IfOk result (λ filling. HasLeavesFor filling.count filling.pairs) }
 {
     let alloc = plan.store.allocator();
     let leaves = Vec::with_capacity(alloc, rooms.len())?;
@@ -67,7 +69,7 @@ pub(crate) fn filling_of<S: NodeStore>(
     })
 }
 
-/// Fills empty leaves with pairs, and puts them behind others.
+/// Fills empty leaves with pairs, and appends them to others.
 pub(crate) fn fill_all<K: Key, V: Drop>(
     pairs: IntoIter<(K, V)>,
     rooms: IntoIter<Box<LeafNode<K, V>>>,

@@ -1,20 +1,20 @@
 //! Which leaves of a tree stay as they are when the pairs between two positions go.
 ghost use Rattle.std.specs.Prelude.{◌≡◌, ◌+◌, ◌<◌, ◌^◌, length};
 ghost use Rattle.std.specs.List.{AllByRecursion};
-ghost use Rattle.bptree_building.specs.Rooms.{IsPresentAt};
+ghost use Rattle.bptree_bulk_load.specs.Rooms.{IsPresentAt};
 ghost use Rattle.bptree_bulk.specs.Gap.{gap_begins, gap_ends, IsGap};
-ghost use Rattle.bptree_bulk.specs.Positions.{place_of, IsAtPair};
-ghost use Rattle.bptree_shape.specs.Leaves.{pairs_of};
-ghost use Rattle.bptree_shape.specs.Shape.{leaves_at};
+ghost use Rattle.bptree_bulk.specs.Positions.{index_of_position, IsAtPair};
+ghost use Rattle.bptree_invariant.specs.Leaves.{pairs_of};
+ghost use Rattle.bptree_invariant.specs.Shape.{leaves_at};
 
 use crate::cut::{index_of, leaf_before, leaf_behind};
+use bptree_invariant::nodes::Nodes;
 use bptree_keys::node_id::{LeafNodeId, Position};
-use bptree_shape::nodes::Nodes;
 use bptree_stores::node_stores::NodeStore;
 
 /// The pairs that go, and the leaves around them. The leaves before `from` and from `to` on stay as
-/// they are. Of the pairs of the leaves between them, the border, the first `before` stay, and those
-/// from the index `behind` on. They move to other leaves.
+/// they are. Of the pairs of the leaves between them, the border, the first `before` stay, and
+/// those from the index `behind` on. They move to other leaves.
 #[derive(Clone, Copy, Drop)]
 pub struct Gap {
     pub from: usize,
@@ -52,11 +52,11 @@ pub(crate) fn gap_between<S: NodeStore>(
     requires ids { ids.now ≡ leaves_at (S.slots tree.now.store) tree.now.height tree.now.root }
     requires lo { IsAtPair S.slots tree.now lo }
     requires hi { IsAtPair S.slots tree.now hi }
-    requires order { place_of S.slots tree.now lo < place_of S.slots tree.now hi }
-    requires some { place_of S.slots tree.now hi < place_of S.slots tree.now lo + length tree.now.contents }
+    requires order { index_of_position S.slots tree.now lo < index_of_position S.slots tree.now hi }
+    requires some { index_of_position S.slots tree.now hi < index_of_position S.slots tree.now lo + length tree.now.contents }
     ensures gap { IsGap (S.slots tree.now.store) ids.now result }
-    ensures begins { gap_begins (S.slots tree.now.store) ids.now result ≡ place_of S.slots tree.now lo }
-    ensures ends { gap_ends (S.slots tree.now.store) ids.now result ≡ place_of S.slots tree.now hi }
+    ensures begins { gap_begins (S.slots tree.now.store) ids.now result ≡ index_of_position S.slots tree.now lo }
+    ensures ends { gap_ends (S.slots tree.now.store) ids.now result ≡ index_of_position S.slots tree.now hi }
 {
     tree.recall();
     let i = index_of(ids, lo.leaf);

@@ -1,21 +1,21 @@
-//! Two trees that become one where all keys of one are below those of the other.
+//! Two trees that become one, when all keys of one are below those of the other.
 ghost use Rattle.std.specs.Prelude.{◌≡◌, ◌+◌, ◌<◌, ◌≤◌, ◌^◌, ◌++◌, length, IfOk};
-ghost use Rattle.bptree_bulk.specs.Joining.{IsJoint};
+ghost use Rattle.bptree_bulk.specs.Joining.{IsJoinPlan};
 ghost use Rattle.bptree_keys.specs.Contents.{IsAscending};
-ghost use Rattle.bptree_shape.specs.NodeTree.{IsWhole};
+ghost use Rattle.bptree_invariant.specs.NodeTree.{IsWhole};
 
-use bptree_building::leaves::{leaf_ids, take_leaves};
-use bptree_building::plan::{empty_plan, frame, plan_leaves};
-use bptree_building::planting::{Frame, plant};
+use bptree_bulk_load::leaves::{leaf_ids, take_leaves};
+use bptree_bulk_load::plan::{empty_plan, frame, plan_leaves};
+use bptree_bulk_load::planting::{Frame, plant};
+use bptree_invariant::nodes::Nodes;
 use bptree_keys::node_id::LeafNodeId;
 use bptree_nodes::leaf_node::LeafNode;
-use bptree_shape::nodes::Nodes;
 use bptree_stores::node_stores::NodeStore;
 use std::alloc::AllocError;
 
-/// All that is found before two trees become one. Dropping it leaves both as they were.
+/// Everything that is prepared before two trees become one. Dropping it leaves both as they were.
 #[derive(Drop)]
-pub struct Joint<S: NodeStore> {
+pub struct JoinPlan<S: NodeStore> {
     first: Vec<LeafNodeId>,
     second: Vec<LeafNodeId>,
     frame: Frame<S>,
@@ -23,17 +23,20 @@ pub struct Joint<S: NodeStore> {
     leaves: Vec<Box<LeafNode<S::K, S::V>>>,
 }
 
-/// Finds all that is needed to make one tree of two, each of which has at least 16 pairs. Each key of
-/// the first is below each key of the second.
+/// Prepares all that is needed to make one tree of two, each of which has at least 16 pairs. Each
+/// key of the first is below each key of the second.
 ///
-/// O(n / 32) for n pairs of both. It clones the first key of each leaf and computes a summary of its
-/// keys, and fails where one of these or an allocation fails.
-pub fn plan_join<S: NodeStore>(first: &Nodes<S>, second: &Nodes<S>) -> Result<Joint<S>, AllocError>
+/// O(n / 32) for n pairs of both. It clones the first key of each leaf and computes a summary of
+/// its keys. It fails if one of these or an allocation fails.
+pub fn plan_join<S: NodeStore>(
+    first: &Nodes<S>,
+    second: &Nodes<S>,
+) -> Result<JoinPlan<S>, AllocError>
     requires below { IsAscending S.K.cmp (first.now.contents ++ second.now.contents) }
     requires first { 16 ≤ length first.now.contents }
     requires second { 16 ≤ length second.now.contents }
     requires few { length first.now.contents + length second.now.contents < 2 ^ 64 }
-    ensures { IfOk result (IsJoint S.K.cmp S.Argument.is_summary S.slots first.now second.now) }
+    ensures { IfOk result (IsJoinPlan S.K.cmp S.Argument.is_summary S.slots first.now second.now) }
 {
     first.recall();
     second.recall();
@@ -45,7 +48,7 @@ pub fn plan_join<S: NodeStore>(first: &Nodes<S>, second: &Nodes<S>) -> Result<Jo
     plan_leaves(&mut plan, &second.store, &others)?;
     let frame = frame(plan)?;
     let leaves = Vec::with_capacity(alloc, ids.len() + others.len())?;
-    Ok(Joint {
+    Ok(JoinPlan {
         first: ids,
         second: others,
         frame,
@@ -53,11 +56,11 @@ pub fn plan_join<S: NodeStore>(first: &Nodes<S>, second: &Nodes<S>) -> Result<Jo
     })
 }
 
-/// The tree of the pairs of both.
+/// Makes one tree of the pairs of both.
 ///
 /// O(n / 32) for n pairs: no pair moves to another leaf. It allocates nothing and cannot fail.
-pub fn join<S: NodeStore>(first: Nodes<S>, second: Nodes<S>, joint: Joint<S>) -> Nodes<S>
-    requires joint { IsJoint S.K.cmp S.Argument.is_summary S.slots first second joint }
+pub fn join<S: NodeStore>(first: Nodes<S>, second: Nodes<S>, joint: JoinPlan<S>) -> Nodes<S>
+    requires joint { IsJoinPlan S.K.cmp S.Argument.is_summary S.slots first second joint }
     requires below { IsAscending S.K.cmp (first.contents ++ second.contents) }
     requires few { length first.contents + length second.contents < 2 ^ 64 }
     ensures contents { result.contents ≡ first.contents ++ second.contents }
@@ -65,7 +68,7 @@ pub fn join<S: NodeStore>(first: Nodes<S>, second: Nodes<S>, joint: Joint<S>) ->
 {
     first.recall();
     second.recall();
-    let Joint {
+    let JoinPlan {
         first: ids,
         second: others,
         frame,

@@ -1,4 +1,5 @@
-//! Calls that move many pairs at once: all memory is allocated first, and then whole leaves move.
+//! Operations that move many pairs at once: all memory is allocated first, and then whole leaves
+//! move.
 #![tactic(auto)]
 
 mod around;

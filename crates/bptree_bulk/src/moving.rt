@@ -2,7 +2,7 @@
 //! fail.
 ghost use Rattle.std.specs.Prelude.{◌≡◌, ◌+◌, ◌<◌, ◌≤◌, ◌^◌, ◌++◌, ◌∷◌, [], length, take, drop, vec_capacity, vec_len};
 ghost use Rattle.std.specs.Vec.Iter.{into_iter_items, into_iter_len};
-ghost use Rattle.bptree_building.specs.Rooms.{joined, parts_of};
+ghost use Rattle.bptree_bulk_load.specs.Rooms.{joined, parts_of};
 ghost use Rattle.bptree_bulk.specs.Cut.{pieces, IsHalf};
 ghost use Rattle.bptree_bulk.specs.Gap.{without_part};
 ghost use Rattle.bptree_bulk.specs.Moving.{poured, poured_around};
@@ -11,7 +11,7 @@ use bptree_keys::key::Key;
 use bptree_nodes::leaf_node::LeafNode;
 use std::vec::IntoIter;
 
-/// Moves the next `count` members behind others.
+/// Moves the next `count` members to the end of `to`.
 pub(crate) fn pass<T: Drop>(items: &mut IntoIter<T>, count: usize, to: &mut Vec<T>)
     requires counted { into_iter_len items.old ≡ length (into_iter_items items.old) }
     requires some { count ≤ length (into_iter_items items.old) }
@@ -29,7 +29,7 @@ pub(crate) fn pass<T: Drop>(items: &mut IntoIter<T>, count: usize, to: &mut Vec<
     }
 }
 
-// Moves the pairs of a leaf behind others.
+// Moves the pairs of a leaf to the end of `pairs`.
 fn pour_leaf<K: Key, V: Drop>(leaf: Box<LeafNode<K, V>>, pairs: &mut Vec<(K, V)>)
     requires room { vec_len pairs.old + length leaf.value.pairs ≤ vec_capacity pairs.old }
     ensures moved { pairs.new.items ≡ pairs.old.items ++ leaf.value.pairs }
@@ -62,8 +62,8 @@ pub(crate) fn pour<K: Key, V: Drop>(
     }
 }
 
-// Moves the pairs of a leaf behind others, but for those from one index up to another. A leaf of
-// which none stays is dropped as it is.
+// Moves the pairs of a leaf behind others, without those from one index up to another. If no pair
+// of the leaf stays, the leaf is dropped as it is.
 fn pour_leaf_around<K: Key, V: Drop>(
     leaf: Box<LeafNode<K, V>>,
     before: usize,
@@ -95,8 +95,8 @@ fn pour_leaf_around<K: Key, V: Drop>(
     }
 }
 
-/// Moves the pairs of the next `count` leaves behind others, but for those from one index up to
-/// another. These are dropped.
+/// Moves the pairs of the next `count` leaves behind others, and drops those from one index up to
+/// another.
 pub(crate) fn pour_around<K: Key, V: Drop>(
     leaves: &mut IntoIter<Box<LeafNode<K, V>>>,
     count: usize,

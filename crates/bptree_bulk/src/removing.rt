@@ -1,24 +1,25 @@
-//! A tree from which the pairs between two positions go.
+//! Removal of the pairs between two positions of a tree.
 ghost use Rattle.std.specs.Prelude.{◌+◌, ◌<◌, length, IfOk};
-ghost use Rattle.bptree_bulk.specs.Positions.{place_of, IsAtPair};
+ghost use Rattle.bptree_bulk.specs.Positions.{index_of_position, IsAtPair};
 ghost use Rattle.bptree_bulk.specs.Removing.{AreKept, IsRemovalBetween, IsRemovalSomewhere, ReadiesAround};
-ghost use Rattle.bptree_shape.specs.NodeTree.{IsWhole};
+ghost use Rattle.bptree_invariant.specs.NodeTree.{IsWhole};
 
 use crate::around::plan_border;
 use crate::filling::fill_all;
 use crate::gap::{Gap, gap_between};
 use crate::moving::{pass, pour_around};
-use crate::splitting::{Ready, stand};
-use bptree_building::leaves::{leaf_ids, take_leaves};
-use bptree_building::plan::{empty_plan, frame, plan_leaves};
-use bptree_building::planting::Frame;
+use crate::splitting::{Ready, assemble};
+use bptree_bulk_load::leaves::{leaf_ids, take_leaves};
+use bptree_bulk_load::plan::{empty_plan, frame, plan_leaves};
+use bptree_bulk_load::planting::Frame;
+use bptree_invariant::nodes::Nodes;
 use bptree_keys::node_id::{LeafNodeId, Position};
 use bptree_nodes::leaf_node::LeafNode;
-use bptree_shape::nodes::Nodes;
 use bptree_stores::node_stores::NodeStore;
 use std::alloc::AllocError;
 
-/// All that is found before pairs of a tree go. Dropping it leaves the tree as it was.
+/// Everything that is prepared before pairs of a tree are removed. Dropping it leaves the tree as
+/// it was.
 #[derive(Drop)]
 pub struct Removal<S: NodeStore> {
     ids: Vec<LeafNodeId>,
@@ -32,11 +33,11 @@ pub struct Removal<S: NodeStore> {
     pairs: Vec<(S::K, S::V)>,
 }
 
-/// Finds all that is needed to drop the pairs of a tree from one position up to another. Some pair
-/// goes, and some pair stays.
+/// Prepares all that is needed to drop the pairs of a tree from one position up to another. Some
+/// pair is dropped, and some pair stays.
 ///
 /// O(n / 32) for n pairs. It clones the first key of each leaf that stays or is new and computes a
-/// summary of its keys, and fails where one of these or an allocation fails.
+/// summary of its keys. It fails if one of these or an allocation fails.
 pub fn plan_removal<S: NodeStore>(
     tree: &Nodes<S>,
     lo: Position,
@@ -44,8 +45,8 @@ pub fn plan_removal<S: NodeStore>(
 ) -> Result<Removal<S>, AllocError>
     requires lo { IsAtPair S.slots tree.now lo }
     requires hi { IsAtPair S.slots tree.now hi }
-    requires order { place_of S.slots tree.now lo < place_of S.slots tree.now hi }
-    requires some { place_of S.slots tree.now hi < place_of S.slots tree.now lo + length tree.now.contents }
+    requires order { index_of_position S.slots tree.now lo < index_of_position S.slots tree.now hi }
+    requires some { index_of_position S.slots tree.now hi < index_of_position S.slots tree.now lo + length tree.now.contents }
     ensures { IfOk result (IsRemovalBetween S.K.cmp S.Argument.is_summary S.slots tree.now lo hi) }
 {
     tree.recall();
@@ -71,8 +72,8 @@ pub fn plan_removal<S: NodeStore>(
     })
 }
 
-// Moves all leaves out of a tree, drops the pairs that go, and puts the others into the leaves of the
-// new tree.
+// Moves all leaves out of a tree, drops the pairs that are removed, and moves the others into the
+// leaves of the new tree.
 fn deal_around<S: NodeStore>(tree: Nodes<S>, removal: Removal<S>) -> Ready<S>
     requires { IsRemovalSomewhere S.K.cmp S.Argument.is_summary S.slots tree removal }
     ensures { ReadiesAround S.K.cmp S.Argument.is_summary S.slots tree removal result }
@@ -104,7 +105,7 @@ fn deal_around<S: NodeStore>(tree: Nodes<S>, removal: Removal<S>) -> Ready<S>
     Ready { frame, leaves }
 }
 
-/// The tree without the pairs that go.
+/// The tree without the pairs that are removed.
 ///
 /// O(n / 32 + k) for n pairs of which k go: only the pairs of a few leaves at the gap move to other
 /// leaves. It allocates nothing and cannot fail.
@@ -114,5 +115,5 @@ pub fn cut_out<S: NodeStore>(tree: Nodes<S>, removal: Removal<S>) -> Nodes<S>
     ensures whole { IsWhole S.K.cmp S.Argument.is_summary S.slots result }
 {
     tree.recall();
-    stand(deal_around(tree, removal))
+    assemble(deal_around(tree, removal))
 }

@@ -1,21 +1,21 @@
-//! What is found for one side of a cut while the tree is only read.
+//! What is prepared for one side of a cut while the tree is only read.
 ghost use Rattle.std.specs.Prelude.{◌≡◌, ◌+◌, ◌<◌, ◌≤◌, length, IfOk, OnOk};
 ghost use Rattle.std.specs.List.{AllByRecursion};
-ghost use Rattle.bptree_building.specs.Plans.{Adds, AddsParts};
-ghost use Rattle.bptree_building.specs.Rooms.{IsPresentAt};
+ghost use Rattle.bptree_bulk_load.specs.Plans.{AddsPlan, AddsParts};
+ghost use Rattle.bptree_bulk_load.specs.Rooms.{IsPresentAt};
 ghost use Rattle.bptree_bulk.specs.Cut.{pieces, IsCut, IsHalf};
 ghost use Rattle.bptree_bulk.specs.Positions.{AreLast};
 ghost use Rattle.bptree_bulk.specs.Split.{FramesLower, FramesUpper};
 ghost use Rattle.bptree_keys.specs.Ranges.{part};
-ghost use Rattle.bptree_shape.specs.Leaves.{pairs_of};
-ghost use Rattle.bptree_shape.specs.Shape.{leaves_at};
+ghost use Rattle.bptree_invariant.specs.Leaves.{pairs_of};
+ghost use Rattle.bptree_invariant.specs.Shape.{leaves_at};
 
 use crate::cut::{Cut, key_at};
-use bptree_building::plan::{Plan, empty_plan, frame, plan_leaves, plan_part};
-use bptree_building::planting::Frame;
+use bptree_bulk_load::plan::{Plan, empty_plan, frame, plan_leaves, plan_part};
+use bptree_bulk_load::planting::Frame;
+use bptree_invariant::nodes::Nodes;
 use bptree_keys::node_id::LeafNodeId;
 use bptree_ranges::summaries::summary_between;
-use bptree_shape::nodes::Nodes;
 use bptree_stores::node_stores::NodeStore;
 use std::alloc::AllocError;
 
@@ -31,7 +31,7 @@ pub(crate) fn plan_piece<S: NodeStore>(
     requires last { AreLast S.slots tree.now ids.now }
     requires count { (0 < count) × (count ≤ 64) }
     requires within { from + count ≤ length (pairs_of (S.slots tree.now.store) ids.now) }
-    ensures { Adds S.K.cmp S.Argument.is_summary S.slots plan.old plan.new (part (pairs_of (S.slots tree.now.store) ids.now) from count) result }
+    ensures { AddsPlan S.K.cmp S.Argument.is_summary S.slots plan.old plan.new (part (pairs_of (S.slots tree.now.store) ids.now) from count) result }
 {
     tree.recall();
     let first = key_at(&tree.store, ids, from).unwrap();
@@ -67,8 +67,8 @@ fn plan_pieces<S: NodeStore>(
 
 /// A frame for the pairs before a cut.
 ///
-/// O(n / 32) for n pairs. It clones the first key of each leaf and computes a summary of its keys,
-/// and fails where one of these or an allocation fails.
+/// O(n / 32) for n pairs. It clones the first key of each leaf and computes a summary of its keys.
+/// It fails if one of these or an allocation fails.
 pub(crate) fn lower_frame<S: NodeStore>(
     tree: &Nodes<S>,
     ids: &[LeafNodeId],
@@ -92,7 +92,7 @@ pub(crate) fn lower_frame<S: NodeStore>(
     frame(plan)
 }
 
-/// A frame for the pairs behind a cut, in the same way.
+/// A frame for the pairs behind a cut. It costs and fails as `lower_frame` does.
 pub(crate) fn upper_frame<S: NodeStore>(
     tree: &Nodes<S>,
     ids: &[LeafNodeId],

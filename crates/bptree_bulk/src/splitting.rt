@@ -1,30 +1,30 @@
 //! A tree that is cut in two.
 ghost use Rattle.std.specs.Prelude.{IsTrue, ◌↔◌, ◌≡◌, ◌<◌, ◌+◌, ◌^◌, length, IfOk};
 ghost use Rattle.bptree_bulk.specs.Cutting.{IsCutting};
-ghost use Rattle.bptree_bulk.specs.Positions.{place_of, IsAtPair};
-ghost use Rattle.bptree_bulk.specs.Split.{AreLower, AreUpper, CanStand, HasPairs, HasRoom, IsSplitAt, IsSplitSomewhere, ReadiesLower, ReadiesUpper};
-ghost use Rattle.bptree_ranges.specs.InTree.{HasPlace, StartsAt};
-ghost use Rattle.bptree_shape.specs.NodeTree.{IsWhole};
+ghost use Rattle.bptree_bulk.specs.Positions.{index_of_position, IsAtPair};
+ghost use Rattle.bptree_bulk.specs.Split.{AreLower, AreUpper, CanBeStored, HasPairs, HasRoom, IsSplitAt, IsSplitSomewhere, ReadiesLower, ReadiesUpper};
+ghost use Rattle.bptree_ranges.specs.InTree.{HasPosition, PartStartsAt};
+ghost use Rattle.bptree_invariant.specs.NodeTree.{IsWhole};
 
 use crate::cut::{Cut, cut_before};
 use crate::filling::Filling;
 use crate::moving::{fill_pieces, pairs_in, pass, pour};
 use crate::side::{lower_frame, upper_frame};
 use crate::tail::{few_from, plan_tail};
-use bptree_building::leaves::{leaf_ids, take_leaves};
-use bptree_building::planting::{Frame, plant};
+use bptree_bulk_load::leaves::{leaf_ids, take_leaves};
+use bptree_bulk_load::planting::{Frame, plant};
+use bptree_invariant::nodes::Nodes;
 use bptree_keys::end::End;
 use bptree_keys::node_id::{LeafNodeId, Position};
 use bptree_nodes::leaf_node::LeafNode;
-use bptree_ranges::bounds::place_of_bound;
+use bptree_ranges::bounds::index_of_bound;
 use bptree_ranges::ranges::settled;
-use bptree_shape::nodes::Nodes;
 use bptree_stores::node_stores::NodeStore;
 use std::alloc::AllocError;
 use std::ops::Bound;
 
-/// What is found for one side of a cut: the nodes above the leaves, the empty leaves for the pairs at
-/// the cut, and the room for the list of all leaves.
+/// What is prepared for one side of a cut: the nodes above the leaves, the empty leaves for the
+/// pairs at the cut, and the room for the list of all leaves.
 #[derive(Drop)]
 pub struct Side<S: NodeStore> {
     frame: Frame<S>,
@@ -32,7 +32,7 @@ pub struct Side<S: NodeStore> {
     leaves: Vec<Box<LeafNode<S::K, S::V>>>,
 }
 
-/// All that is found before a tree is cut in two. Dropping it leaves the tree as it was.
+/// Everything that is prepared before a tree is cut in two. Dropping it leaves the tree as it was.
 #[derive(Drop)]
 pub struct Split<S: NodeStore> {
     ids: Vec<LeafNodeId>,
@@ -60,14 +60,14 @@ fn side_of<S: NodeStore>(frame: Frame<S>, count: usize) -> Result<Side<S>, Alloc
     })
 }
 
-/// Finds all that is needed to cut a tree in two before the pair at a position.
+/// Prepares all that is needed to cut a tree in two before the pair at a position.
 ///
-/// O(n / 32) for n pairs. It clones the first key of each leaf and computes a summary of its keys,
-/// and fails where one of these or an allocation fails.
+/// O(n / 32) for n pairs. It clones the first key of each leaf and computes a summary of its keys.
+/// It fails if one of these or an allocation fails.
 pub fn plan_split<S: NodeStore>(tree: &Nodes<S>, at: Position) -> Result<Split<S>, AllocError>
-    requires place { HasPlace S.slots tree.now at }
-    requires first { 0 < place_of S.slots tree.now at }
-    requires last { place_of S.slots tree.now at < length tree.now.contents }
+    requires index { HasPosition S.slots tree.now at }
+    requires first { 0 < index_of_position S.slots tree.now at }
+    requires last { index_of_position S.slots tree.now at < length tree.now.contents }
     ensures { IfOk result (IsSplitAt S.K.cmp S.Argument.is_summary S.slots tree.now at) }
 {
     let ids = leaf_ids(tree)?;
@@ -94,7 +94,7 @@ pub(crate) struct Ready<S: NodeStore> {
     pub(crate) leaves: Vec<Box<LeafNode<S::K, S::V>>>,
 }
 
-// Moves all leaves out of a tree, and gives each side its own.
+// Moves all leaves out of a tree, and gives each side its own leaves.
 fn deal<S: NodeStore>(tree: Nodes<S>, split: Split<S>) -> (Ready<S>, Ready<S>)
     requires { IsSplitSomewhere S.K.cmp S.Argument.is_summary S.slots tree split }
     ensures lower { ReadiesLower S.K.cmp S.Argument.is_summary S.slots tree split result.0 }
@@ -139,8 +139,8 @@ fn deal<S: NodeStore>(tree: Nodes<S>, split: Split<S>) -> (Ready<S>, Ready<S>)
 }
 
 /// The tree of a frame with its leaves.
-pub(crate) fn stand<S: NodeStore>(ready: Ready<S>) -> Nodes<S>
-    requires { CanStand S.K.cmp S.Argument.is_summary S.slots ready }
+pub(crate) fn assemble<S: NodeStore>(ready: Ready<S>) -> Nodes<S>
+    requires { CanBeStored S.K.cmp S.Argument.is_summary S.slots ready }
     ensures contents { HasPairs S.K.cmp S.Argument.is_summary S.slots ready result.contents }
     ensures whole { IsWhole S.K.cmp S.Argument.is_summary S.slots result }
 {
@@ -161,7 +161,7 @@ pub fn cut_in_two<S: NodeStore>(tree: Nodes<S>, split: Split<S>) -> (Nodes<S>, N
 {
     tree.recall();
     let (lower, upper) = deal(tree, split);
-    (stand(lower), stand(upper))
+    (assemble(lower), assemble(upper))
 }
 
 /// How a tree is cut in two before the first pair whose key is not below a given key.
@@ -181,8 +181,8 @@ pub enum Cutting<S: NodeStore> {
 ///
 /// O(log n). It allocates nothing and cannot fail.
 pub fn is_start<S: NodeStore>(tree: &Nodes<S>, at: Position) -> bool
-    requires { HasPlace S.slots tree.now at }
-    ensures { IsTrue result ↔ StartsAt S.slots tree.now at }
+    requires { HasPosition S.slots tree.now at }
+    ensures { IsTrue result ↔ PartStartsAt S.slots tree.now at }
 {
     tree.recall();
     if at.slot > 0 {
@@ -196,21 +196,22 @@ pub fn is_start<S: NodeStore>(tree: &Nodes<S>, at: Position) -> bool
 /// O(1). It allocates nothing and cannot fail.
 pub fn is_end<S: NodeStore>(tree: &Nodes<S>, at: Position) -> bool
     requires { IsAtPair S.slots tree.now at }
-    ensures { IsTrue result ↔ (place_of S.slots tree.now at ≡ length tree.now.contents) }
+    ensures { IsTrue result ↔ (index_of_position S.slots tree.now at ≡ length tree.now.contents) }
 {
     tree.recall();
     at.slot == tree.store.get_leaf(at.leaf).len()
 }
 
-/// Finds all that is needed to cut a tree in two before the first pair whose key is not below `k`.
+/// Prepares all that is needed to cut a tree in two before the first pair whose key is not below
+/// `k`.
 ///
-/// It searches for that key in O(log n) comparisons, and costs and fails as `plan_split` does.
-/// Where all pairs stay or all move, it allocates nothing and cannot fail.
+/// It searches for that key in O(log n) comparisons, and costs and fails as `plan_split` does. If
+/// all pairs stay or all move, it allocates nothing and cannot fail.
 pub fn plan_at_key<S: NodeStore>(tree: &Nodes<S>, k: &S::K) -> Result<Cutting<S>, AllocError>
     ensures { IfOk result (IsCutting S.K.cmp S.Argument.is_summary S.K.is_infallible S.Argument.needs_no_memory S.slots tree.now k.now) }
 {
     tree.recall();
-    let at = settled(tree, place_of_bound(tree, Bound::Included(k), End::Front));
+    let at = settled(tree, index_of_bound(tree, Bound::Included(k), End::Front));
     if at.slot == tree.store.get_leaf(at.leaf).len() {
         return Ok(Cutting::Stays);
     }

@@ -1,23 +1,23 @@
 //! The last pairs of a tree, which move one by one to a tree of their own.
 ghost use Rattle.std.specs.Prelude.{◌≡◌, ◌+◌, ◌<◌, ◌≤◌, length, reverse, IfOk, IfSome, IsTrue};
 ghost use Rattle.std.specs.Option.{option_copied};
-ghost use Rattle.bptree_building.specs.Plans.{Adds};
+ghost use Rattle.bptree_bulk_load.specs.Plans.{AddsPlan};
 ghost use Rattle.bptree_bulk.specs.Cut.{first_key};
 ghost use Rattle.bptree_bulk.specs.Filling.{FillsAll, FillsFrom, IsFilling};
-ghost use Rattle.bptree_bulk.specs.Positions.{part_to, place_of, rest_of, IsAtPair, IsBehind, IsRest};
-ghost use Rattle.bptree_bulk.specs.Split.{HasRoomFor};
+ghost use Rattle.bptree_bulk.specs.Positions.{part_to, index_of_position, rest_of, IsAtPair, IsBehind, IsRest};
+ghost use Rattle.bptree_bulk.specs.Split.{HasLeavesFor};
 ghost use Rattle.bptree_keys.specs.Keys.{AllInfallible};
-ghost use Rattle.bptree_shape.specs.NodeTree.{IsWhole};
+ghost use Rattle.bptree_invariant.specs.NodeTree.{IsWhole};
 
 use crate::filling::{Filling, filling_of, plant_filling, size_of};
 use bptree_arguments::argument::Argument;
-use bptree_building::plan::{Plan, empty_plan, plan_part};
+use bptree_bulk_load::plan::{Plan, empty_plan, plan_part};
+use bptree_invariant::nodes::Nodes;
 use bptree_keys::key::Key;
 use bptree_keys::node_id::Position;
 use bptree_nodes::leaf_node::LeafNode;
 use bptree_ranges::ranges::settled;
 use bptree_ranges::summaries::summary_between;
-use bptree_shape::nodes::Nodes;
 use bptree_stores::node_stores::NodeStore;
 use std::alloc::AllocError;
 use std::cmp::Ordering;
@@ -35,7 +35,7 @@ pub(crate) fn start_of<S: NodeStore>(tree: &Nodes<S>) -> Position
     settled(tree, first)
 }
 
-// The position `count` pairs behind another, and how many of them are missing at the end of all.
+// The position `count` pairs behind another, and how many of the `count` are missing at the end.
 fn advance<S: NodeStore>(tree: &Nodes<S>, at: Position, count: usize) -> (Position, usize)
     requires { IsAtPair S.slots tree.now at }
     ensures { IsBehind S.slots tree.now at count result.0 result.1 }
@@ -88,9 +88,9 @@ fn plan_between<S: NodeStore>(
 ) -> Result<(), AllocError>
     requires from { IsAtPair S.slots tree.now from }
     requires to { IsAtPair S.slots tree.now to }
-    requires some { place_of S.slots tree.now from < place_of S.slots tree.now to }
-    requires most { place_of S.slots tree.now to ≤ place_of S.slots tree.now from + 64 }
-    ensures { Adds S.K.cmp S.Argument.is_summary S.slots plan.old plan.new (part_to S.slots tree.now from to) result }
+    requires some { index_of_position S.slots tree.now from < index_of_position S.slots tree.now to }
+    requires most { index_of_position S.slots tree.now to ≤ index_of_position S.slots tree.now from + 64 }
+    ensures { AddsPlan S.K.cmp S.Argument.is_summary S.slots plan.old plan.new (part_to S.slots tree.now from to) result }
 {
     tree.recall();
     let first = key_from(tree, from).unwrap();
@@ -100,14 +100,14 @@ fn plan_between<S: NodeStore>(
     plan_part(plan, start, summary)
 }
 
-/// The number of pairs from a position on, if they are so few that they move one by one: below a
-/// thirty-second of all, where no removal can fail.
+/// The number of pairs from a position on, if they are so few that they move one by one: less than
+/// a thirty-second of all pairs, and no removal can fail. Otherwise `None`.
 ///
 /// O(n / 1024) for n pairs. It allocates nothing and cannot fail.
 pub(crate) fn few_from<S: NodeStore>(tree: &Nodes<S>, at: Position) -> Option<usize>
     requires { IsAtPair S.slots tree.now at }
     ensures count { IfSome result (IsRest S.slots tree.now at) }
-    ensures sure { IfSome result (λ _. S.Argument.needs_no_memory × AllInfallible S.K.is_infallible) }
+    ensures infallible { IfSome result (λ _. S.Argument.needs_no_memory × AllInfallible S.K.is_infallible) }
 {
     tree.recall();
     if !(S::K::clones_never_fail() && S::Argument::never_fails()) {
@@ -122,7 +122,8 @@ pub(crate) fn few_from<S: NodeStore>(tree: &Nodes<S>, at: Position) -> Option<us
 }
 
 /// Whether so few pairs are from a position up to a key that they are removed one by one: at most a
-/// thirty-second of all, where no removal can fail. If no key is given, up to the end.
+/// thirty-second of all pairs, and no removal can fail. If no key is given, the pairs up to the
+/// end.
 ///
 /// O(n / 1024) for n pairs. It allocates nothing and cannot fail.
 pub fn removes_few<S: NodeStore>(tree: &Nodes<S>, from: Position, hi: Option<&S::K>) -> bool
@@ -143,10 +144,10 @@ pub fn removes_few<S: NodeStore>(tree: &Nodes<S>, from: Position, hi: Option<&S:
     }
 }
 
-/// Finds all that is needed to move the last `count` pairs of a tree, which begin at a position.
+/// Prepares all that is needed to move the last `count` pairs of a tree, which begin at a position.
 ///
 /// O(`count` / 32 · log n) for n pairs. For each new leaf it clones a key and computes a summary of
-/// its keys, and fails where one of these or an allocation fails.
+/// its keys. It fails if one of these or an allocation fails.
 pub(crate) fn plan_tail<S: NodeStore>(
     tree: &Nodes<S>,
     at: Position,
@@ -156,7 +157,7 @@ pub(crate) fn plan_tail<S: NodeStore>(
     requires some { 0 < count }
     requires count { IsRest S.slots tree.now at count }
     ensures tail { IfOk result (FillsFrom S.K.cmp S.Argument.is_summary S.slots tree.now at) }
-    ensures room { IfOk result (λ tail. HasRoomFor tail.count tail.pairs) }
+    ensures room { IfOk result (λ tail. HasLeavesFor tail.count tail.pairs) }
 {
     tree.recall();
     let alloc = tree.store.allocator();
@@ -176,13 +177,13 @@ pub(crate) fn plan_tail<S: NodeStore>(
     filling_of(plan, rooms, count)
 }
 
-/// Finds all that is needed to move all pairs of a tree.
+/// Prepares all that is needed to move all pairs of a tree.
 ///
 /// It costs and fails as `plan_tail` does.
 pub fn plan_all<S: NodeStore>(tree: &Nodes<S>) -> Result<Filling<S>, AllocError>
     requires { 0 < length tree.now.contents }
     ensures filling { IfOk result (FillsAll S.K.cmp S.Argument.is_summary S.slots tree.now) }
-    ensures room { IfOk result (λ filling. HasRoomFor (length tree.now.contents) filling.pairs) }
+    ensures room { IfOk result (λ filling. HasLeavesFor (length tree.now.contents) filling.pairs) }
 {
     let filling = plan_tail(tree, start_of(tree), tree.len())?;
     Ok(filling)

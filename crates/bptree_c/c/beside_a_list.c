@@ -7,7 +7,7 @@
 
 enum { MOST = 9000, KEYS = 12000, CALLS = 400000, ROOM = 70, MANY = 700 };
 
-/* What a pair holds before a call, and behind a call that finds none. */
+/* What a pair holds before a call, and still holds after a call that finds no pair. */
 static const bptree_pair BLANK = {7, 77};
 
 static bptree_pair plain[MOST + 1];
@@ -22,7 +22,7 @@ static uint64_t roll(uint64_t below) {
     return (dice >> 11) % below;
 }
 
-/* Ends the program where two answers differ. */
+/* Ends the program if two results differ. */
 static void alike(uint64_t one, uint64_t other, const char *call) {
     if (one != other) {
         printf("%s: %llu in place of %llu\n", call, (unsigned long long)one, (unsigned long long)other);
@@ -47,7 +47,8 @@ static size_t smaller(uint64_t key) {
     size_t low = 0, high = len;
     while (low < high) {
         size_t at = low + (high - low) / 2;
-        if (plain[at].key < key) low = at + 1; else high = at;
+        if (plain[at].key < key) low = at + 1;
+        else high = at;
     }
     return low;
 }
@@ -84,21 +85,24 @@ static void change(bptree *map) {
     bool there = is_there(key);
     uint64_t was = there ? plain[at].value : 77;
     switch (roll(8)) {
-    case 0: case 1: case 2:
+    case 0:
+    case 1:
+    case 2:
         if (len == MOST && !there) return;
         code = bptree_put(map, key, value, &old);
         alike(code, there ? BPTREE_REPLACED : BPTREE_ADDED, "put");
         alike(old, was, "put, old value");
         put(key, value);
         return;
-    case 3: case 4:
+    case 3:
+    case 4:
         code = bptree_del(map, key, &old);
         alike(code, there ? BPTREE_REMOVED : BPTREE_ABSENT, "del");
         alike(old, was, "del, old value");
         if (there) take_out(at);
         return;
     case 5:
-        code = bptree_remove_at(map, place, &pair);
+        code = bptree_del_at(map, place, &pair);
         alike(code, place < len ? BPTREE_REMOVED : BPTREE_ABSENT, "remove_at");
         alike_found(code == BPTREE_REMOVED, &pair, place < len, place, "remove_at");
         if (place < len) take_out(place);
@@ -310,7 +314,7 @@ static void put_and_del_all(void) {
     alike(were[MOST], 5, "del_many of all");
     alike(bptree_len(&map), 0, "del_many of all");
     bptree_del_many(&map, all, MOST, were, MOST);
-    for (size_t i = 0; i < MOST; i++) alike(were[i], 0, "del_many of none that is there");
+    for (size_t i = 0; i < MOST; i++) alike(were[i], 0, "del_many of absent keys");
     bptree_free(&map);
     len = 0;
 }
@@ -322,18 +326,18 @@ static void ask_for_none(bptree *map) {
     uint8_t byte = 77, *bytes[] = {NULL, &byte};
     size_t size = 77, *sizes[] = {NULL, &size};
     for (int i = 0; i < 2; i++) {
-        alike(bptree_range(map, 0, pairs[i], 0), 0, "range of none");
-        alike(bptree_range_back(map, UINT64_MAX, pairs[i], 0), 0, "range_back of none");
-        alike(bptree_page(map, 0, pairs[i], 0), 0, "page of none");
-        alike(bptree_page(map, 1, pairs[i], 0), 0, "page of none");
+        alike(bptree_range(map, 0, pairs[i], 0), 0, "range of 0 pairs");
+        alike(bptree_range_back(map, UINT64_MAX, pairs[i], 0), 0, "range_back of 0 pairs");
+        alike(bptree_page(map, 0, pairs[i], 0), 0, "page of 0 pairs");
+        alike(bptree_page(map, 1, pairs[i], 0), 0, "page of 0 pairs");
         bptree_get_many(map, words[i], 0, words[i], 0, bytes[i], 0);
         bptree_rank_many(map, words[i], 0, sizes[i], 0);
         bptree_contains_many(map, words[i], 0, bytes[i], 0);
         bptree_at_many(map, sizes[i], 0, words[i], 0, words[1 - i], 0, bytes[i], 0);
         bptree_del_many(map, words[i], 0, bytes[i], 0);
-        alike(bptree_copy(map, 0, words[i], 0, words[1 - i], 0), 0, "copy of none");
-        alike(bptree_copy(map, SIZE_MAX, words[i], 0, words[1 - i], 0), 0, "copy of none");
-        alike(bptree_put_many(map, words[i], 0, words[1 - i], 0), true, "put_many of none");
+        alike(bptree_copy(map, 0, words[i], 0, words[1 - i], 0), 0, "copy of 0 pairs");
+        alike(bptree_copy(map, SIZE_MAX, words[i], 0, words[1 - i], 0), 0, "copy of 0 pairs");
+        alike(bptree_put_many(map, words[i], 0, words[1 - i], 0), true, "put_many of 0 pairs");
         alike(bptree_len(map), len, "len behind arrays of length 0");
     }
     alike_pairs(pair, BLANK, "a pair of no array");
@@ -342,12 +346,12 @@ static void ask_for_none(bptree *map) {
 
 static void load_none(bptree *map) {
     bptree_pair pair = BLANK;
-    alike(bptree_load(map, NULL, 0), true, "load of none");
-    alike(bptree_len(map), 0, "load of none");
+    alike(bptree_load(map, NULL, 0), true, "load of 0 pairs");
+    alike(bptree_len(map), 0, "load of 0 pairs");
     alike(bptree_load(map, &pair, 1), true, "load of one");
     alike(bptree_len(map), 1, "load of one");
-    alike(bptree_load(map, &pair, 0), true, "load of none");
-    alike(bptree_len(map), 0, "load of none");
+    alike(bptree_load(map, &pair, 0), true, "load of 0 pairs");
+    alike(bptree_len(map), 0, "load of 0 pairs");
     len = 0;
 }
 

@@ -7,7 +7,10 @@
 
 enum { MOST = 3000, LONGEST = 13, ROOM = 15, CALLS = 150000 };
 
-typedef struct string { size_t n; uint8_t bytes[LONGEST]; } string;
+typedef struct string {
+    size_t n;
+    uint8_t bytes[LONGEST];
+} string;
 
 static string plain[MOST + 1];
 static size_t len;
@@ -21,7 +24,7 @@ static uint64_t roll(uint64_t below) {
     return (dice >> 11) % below;
 }
 
-/* Ends the program where two answers differ. */
+/* Ends the program if two results differ. */
 static void alike(uint64_t one, uint64_t other, const char *call) {
     if (one != other) {
         printf("%s: %llu in place of %llu\n", call, (unsigned long long)one, (unsigned long long)other);
@@ -50,7 +53,8 @@ static size_t smaller(const string *key) {
     size_t low = 0, high = len;
     while (low < high) {
         size_t at = low + (high - low) / 2;
-        if (compared(&plain[at], key) < 0) low = at + 1; else high = at;
+        if (compared(&plain[at], key) < 0) low = at + 1;
+        else high = at;
     }
     return low;
 }
@@ -60,12 +64,12 @@ static void change(bptree_bytes *set, const string *key) {
     bool there = at < len && !compared(&plain[at], key);
     if (roll(5) < 3) {
         if (len == MOST && !there) return;
-        alike(bptree_bytes_insert(set, key->bytes, key->n), there ? BPTREE_REPLACED : BPTREE_ADDED, "insert");
+        alike(bptree_bytes_put(set, key->bytes, key->n), there ? BPTREE_REPLACED : BPTREE_ADDED, "insert");
         if (there) return;
         memmove(plain + at + 1, plain + at, (len++ - at) * sizeof *plain);
         plain[at] = *key;
     } else {
-        alike(bptree_bytes_remove(set, key->bytes, key->n), there ? BPTREE_REMOVED : BPTREE_ABSENT, "remove");
+        alike(bptree_bytes_del(set, key->bytes, key->n), there ? BPTREE_REMOVED : BPTREE_ABSENT, "remove");
         if (there) memmove(plain + at, plain + at + 1, (--len - at) * sizeof *plain);
     }
 }
@@ -83,8 +87,7 @@ static void blank(void) {
 static void told_of(bool is_there, size_t at, bool answer, const char *call) {
     alike(answer, is_there, call);
     alike(told, is_there ? plain[at].n : 77, call);
-    for (size_t i = 0; i < ROOM; i++)
-        alike(out[i], is_there && i < plain[at].n && i < room ? plain[at].bytes[i] : 0x55, call);
+    for (size_t i = 0; i < ROOM; i++) alike(out[i], is_there && i < plain[at].n && i < room ? plain[at].bytes[i] : 0x55, call);
     blank();
 }
 
@@ -115,12 +118,12 @@ static void ask_with_null(bptree_bytes *set) {
     told_of(len > 0, 0, bptree_bytes_at(set, 0, NULL, 0, &told), "at into NULL"), room = 0;
     told_of(above < len, above, bptree_bytes_next(set, NULL, 0, NULL, 0, &told), "next of NULL");
     told_of(false, 0, bptree_bytes_prev(set, NULL, 0, NULL, 0, &told), "prev of NULL");
-    alike(bptree_bytes_remove(set, NULL, 0), there ? BPTREE_REMOVED : BPTREE_ABSENT, "remove of NULL");
+    alike(bptree_bytes_del(set, NULL, 0), there ? BPTREE_REMOVED : BPTREE_ABSENT, "remove of NULL");
     alike(bptree_bytes_contains(set, NULL, 0), false, "contains of NULL");
-    alike(bptree_bytes_insert(set, NULL, 0), BPTREE_ADDED, "insert of NULL");
-    alike(bptree_bytes_insert(set, NULL, 0), BPTREE_REPLACED, "insert of NULL");
+    alike(bptree_bytes_put(set, NULL, 0), BPTREE_ADDED, "insert of NULL");
+    alike(bptree_bytes_put(set, NULL, 0), BPTREE_REPLACED, "insert of NULL");
     alike(bptree_bytes_contains(set, empty.bytes, 0), true, "contains of no bytes");
-    if (!there) alike(bptree_bytes_remove(set, empty.bytes, 0), BPTREE_REMOVED, "remove of no bytes");
+    if (!there) alike(bptree_bytes_del(set, empty.bytes, 0), BPTREE_REMOVED, "remove of no bytes");
 }
 
 static void ask(const bptree_bytes *set, const string *key) {

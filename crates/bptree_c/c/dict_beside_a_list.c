@@ -6,7 +6,10 @@
 #include <string.h>
 
 #define MOST 3000
-struct key { size_t n; uint8_t at[40]; };
+struct key {
+    size_t n;
+    uint8_t at[40];
+};
 static struct key keys[MOST];
 static uint64_t values[MOST];
 static size_t count;
@@ -14,8 +17,14 @@ static int closed;
 static size_t asked;
 void *__real_malloc(size_t n);
 void *__real_realloc(void *at, size_t n);
-void *__wrap_malloc(size_t n) { asked++; return closed ? NULL : __real_malloc(n); }
-void *__wrap_realloc(void *at, size_t n) { asked++; return closed ? NULL : __real_realloc(at, n); }
+void *__wrap_malloc(size_t n) {
+    asked++;
+    return closed ? NULL : __real_malloc(n);
+}
+void *__wrap_realloc(void *at, size_t n) {
+    asked++;
+    return closed ? NULL : __real_realloc(at, n);
+}
 
 static int order(const struct key *a, const struct key *b) {
     int o = memcmp(a->at, b->at, a->n < b->n ? a->n : b->n);
@@ -28,8 +37,19 @@ static size_t place(const struct key *k, int *there) {
     return i;
 }
 static uint64_t seed = 1;
-static uint64_t draw(uint64_t n) { seed ^= seed << 13; seed ^= seed >> 7; seed ^= seed << 17; return seed % n; }
-#define must(x) do { if (!(x)) { printf("failed: %s, line %d\n", #x, __LINE__); exit(1); } } while (0)
+static uint64_t draw(uint64_t n) {
+    seed ^= seed << 13;
+    seed ^= seed >> 7;
+    seed ^= seed << 17;
+    return seed % n;
+}
+#define must(x)                                                                                                                                      \
+    do {                                                                                                                                             \
+        if (!(x)) {                                                                                                                                  \
+            printf("failed: %s, line %d\n", #x, __LINE__);                                                                                           \
+            exit(1);                                                                                                                                 \
+        }                                                                                                                                            \
+    } while (0)
 
 /* What the arguments hold before a call, and behind a call that finds nothing. */
 enum { WHOLE = 40, NO_LENGTH = 79, NO_VALUE = 5, NO_OLD = 6 };
@@ -133,7 +153,7 @@ static void with_null(bptree_dict *dict) {
     must(bptree_dict_put(dict, NULL, 0, 8, &old) == BPTREE_ADDED && old == NO_OLD);
     must(bptree_dict_put(dict, NULL, 0, 9, &old) == BPTREE_REPLACED && old == 8);
     if (there) must(bptree_dict_put(dict, empty.at, 0, was, &old) == BPTREE_REPLACED && old == 9);
-    else must(bptree_dict_remove_at(dict, 0, &old) == BPTREE_REMOVED && old == 9);
+    else must(bptree_dict_del_at(dict, 0, &old) == BPTREE_REMOVED && old == 9);
     must(bptree_dict_len(dict) == count);
 }
 
@@ -151,12 +171,16 @@ int main(void) {
     must(bptree_dict_new(&dict));
     for (int step = 0; step < 60000; step++) {
         struct key k = any_key();
-        int there; size_t i = place(&k, &there), rank = 77; uint64_t value = NO_VALUE, old = NO_OLD;
+        int there;
+        size_t i = place(&k, &there), rank = 77;
+        uint64_t value = NO_VALUE, old = NO_OLD;
         if (step % 64 == 0) with_null(&dict);
         if (step % 4000 == 3999) load(&dict), i = place(&k, &there);
         blank();
         switch (draw(10)) {
-        case 0: case 1: case 2:
+        case 0:
+        case 1:
+        case 2:
             if (count == MOST) break;
             value = draw(1000);
             closed = there;
@@ -165,14 +189,16 @@ int main(void) {
             must(old == (there ? values[i] : NO_OLD));
             put_at(i, there, &k, value);
             break;
-        case 3: case 4:
+        case 3:
+        case 4:
             must(bptree_dict_del(&dict, k.at, k.n, &old) == (there ? BPTREE_REMOVED : BPTREE_ABSENT));
             must(old == (there ? values[i] : NO_OLD));
             if (there) take_out(i);
             break;
         case 9: {
             size_t p = step % 2 ? count - 1 : 0, room = draw(WHOLE + 1);
-            bptree_result code = step % 2 ? bptree_dict_pop_last(&dict, out, room, &len, &found) : bptree_dict_pop_first(&dict, out, room, &len, &found);
+            bptree_result code =
+                step % 2 ? bptree_dict_pop_last(&dict, out, room, &len, &found) : bptree_dict_pop_first(&dict, out, room, &len, &found);
             must(code == (count == 0 ? BPTREE_ABSENT : keys[p].n > room ? BPTREE_NO_ROOM : BPTREE_REMOVED));
             if (code == BPTREE_NO_ROOM) {
                 must(len == keys[p].n && found == NO_VALUE);
@@ -186,7 +212,7 @@ int main(void) {
         }
         case 8: {
             size_t p = draw(count + 3);
-            must(bptree_dict_remove_at(&dict, p, &old) == (p < count ? BPTREE_REMOVED : BPTREE_ABSENT));
+            must(bptree_dict_del_at(&dict, p, &old) == (p < count ? BPTREE_REMOVED : BPTREE_ABSENT));
             must(old == (p < count ? values[p] : NO_OLD));
             if (p < count) take_out(p);
             break;
@@ -200,7 +226,9 @@ int main(void) {
             size_t above = i + there, room = draw(WHOLE + 1);
             found_is(bptree_dict_next(&dict, k.at, k.n, out, room, &len, &found), above < count, above, room);
             found_is(bptree_dict_prev(&dict, k.at, k.n, out, room, &len, &found), i > 0, i - 1, room);
-            struct key t = {draw(3), {'a', 'b'}}; int u; size_t j = place(&t, &u);
+            struct key t = {draw(3), {'a', 'b'}};
+            int u;
+            size_t j = place(&t, &u);
             must(bptree_dict_range_len(&dict, k.at, k.n, t.at, t.n) == (j > i ? j - i : 0));
             must(asked == before);
             closed = 0;
@@ -218,13 +246,17 @@ int main(void) {
         }
         default: {
             closed = 1;
-            uint8_t bytes[200]; bptree_record records[60]; uint64_t some[60];
+            uint8_t bytes[200];
+            bptree_record records[60];
+            uint64_t some[60];
             memset(bytes, 0x55, sizeof bytes);
             for (size_t q = 0; q < 60; q++) records[q] = (bptree_record){NO_LENGTH, NO_VALUE + q}, some[q] = q;
             size_t p = draw(count + 3), room = draw(201), n = draw(61), used = 0, got = bptree_dict_page(&dict, p, bytes, room, records, n), want = 0;
             while (want < n && p + want < count && used + keys[p + want].n <= room) {
-                must(want < got && records[want].length == keys[p + want].n && records[want].value == values[p + want] && !memcmp(bytes + used, keys[p + want].at, keys[p + want].n));
-                used += keys[p + want].n; want++;
+                must(want < got && records[want].length == keys[p + want].n && records[want].value == values[p + want] &&
+                     !memcmp(bytes + used, keys[p + want].at, keys[p + want].n));
+                used += keys[p + want].n;
+                want++;
             }
             must(got == want);
             for (size_t q = used; q < sizeof bytes; q++) must(bytes[q] == 0x55);
@@ -235,8 +267,10 @@ int main(void) {
             got = bptree_dict_page_back(&dict, p, bytes, room, records, n), used = want = 0;
             while (want < n && want < end && used + keys[end - 1 - want].n <= room) {
                 size_t q = end - 1 - want;
-                must(want < got && records[want].length == keys[q].n && records[want].value == values[q] && !memcmp(bytes + used, keys[q].at, keys[q].n));
-                used += keys[q].n; want++;
+                must(want < got && records[want].length == keys[q].n && records[want].value == values[q] &&
+                     !memcmp(bytes + used, keys[q].at, keys[q].n));
+                used += keys[q].n;
+                want++;
             }
             must(got == want);
             for (size_t q = used; q < sizeof bytes; q++) must(bytes[q] == 0x55);

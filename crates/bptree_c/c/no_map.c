@@ -19,7 +19,10 @@ static void none(void) {}
 static void free_it(void) { bptree_free(&map); }
 static void clear(void) { bptree_clear(&map); }
 static void load(void) { bptree_load(&map, &pair, 1); }
-static void clone(void) { bptree to = {0}; bptree_clone(&map, &to); }
+static void clone(void) {
+    bptree to = {0};
+    bptree_clone(&map, &to);
+}
 static void len(void) { number = bptree_len(&map); }
 static void contains(void) { bptree_contains(&map, 1); }
 static void get(void) { bptree_get(&map, 1, &value); }
@@ -34,14 +37,20 @@ static void range(void) { bptree_range(&map, 0, &pair, 1); }
 static void get_many(void) { bptree_get_many(&map, &value, 1, &value, 1, &byte, 1); }
 static void contains_many(void) { bptree_contains_many(&map, &value, 1, &byte, 1); }
 static void rank_many(void) { bptree_rank_many(&map, &value, 1, &number, 1); }
-static void at_many(void) { size_t index = 0; bptree_at_many(&map, &index, 1, &value, 1, &pair.value, 1, &byte, 1); }
+static void at_many(void) {
+    size_t index = 0;
+    bptree_at_many(&map, &index, 1, &value, 1, &pair.value, 1, &byte, 1);
+}
 static void put_many(void) { bptree_put_many(&map, &value, 1, &pair.value, 1); }
 static void del_many(void) { bptree_del_many(&map, &value, 1, &byte, 1); }
 static void copy(void) { bptree_copy(&map, 0, &value, 1, &pair.value, 1); }
 static void dict_free(void) { bptree_dict_free(&dict); }
 static void dict_clear(void) { bptree_dict_clear(&dict); }
 static void dict_load(void) { bptree_dict_load(&dict, &byte, 1, &record, 1); }
-static void dict_clone(void) { bptree_dict to = {0}; bptree_dict_clone(&dict, &to); }
+static void dict_clone(void) {
+    bptree_dict to = {0};
+    bptree_dict_clone(&dict, &to);
+}
 static void dict_len(void) { number = bptree_dict_len(&dict); }
 static void dict_get(void) { bptree_dict_get(&dict, &byte, 1, &value); }
 static void dict_rank(void) { bptree_dict_rank(&dict, &byte, 1, &number); }
@@ -49,12 +58,13 @@ static void dict_put(void) { bptree_dict_put(&dict, &byte, 1, 1, &value); }
 static void dict_del(void) { bptree_dict_del(&dict, &byte, 1, &value); }
 static void dict_at(void) { bptree_dict_at(&dict, 0, &byte, 1, &number, &value); }
 static void dict_page(void) { bptree_dict_page(&dict, 0, &byte, 1, &record, 1); }
-static void dict_remove_at(void) { bptree_dict_remove_at(&dict, 0, &value); }
+static void dict_remove_at(void) { bptree_dict_del_at(&dict, 0, &value); }
 
 static void (*const calls[])(void) = {
-    free_it, clear, load, clone, len, contains, get, first, next, at, rank, put, del, pop_last, range, copy, get_many,
-    contains_many, rank_many, at_many, put_many, del_many,
-    dict_free, dict_clear, dict_load, dict_clone, dict_len, dict_get, dict_rank, dict_put, dict_del, dict_at, dict_page, dict_remove_at,
+    free_it,  clear,    load,      clone,          len,       contains,   get,      first,         next,      at,
+    rank,     put,      del,       pop_last,       range,     copy,       get_many, contains_many, rank_many, at_many,
+    put_many, del_many, dict_free, dict_clear,     dict_load, dict_clone, dict_len, dict_get,      dict_rank, dict_put,
+    dict_del, dict_at,  dict_page, dict_remove_at,
 };
 
 /* The signal that ended a process which made a call, or 0. */

@@ -59,8 +59,8 @@ static bool is_as_it_was(const bptree *map, size_t len) {
     return bptree_range(map, 0, after, PAIRS + 1) == len && !memcmp(before, after, len * sizeof *before);
 }
 
-/* Makes a call again and again, each time with its next allocation failing, until none did. So many
-   of its allocations are for room that the call can do without. */
+/* Makes a call again and again. First its first allocation fails, then its second one, and so on, until no
+   allocation failed. `hints` of its allocations are for room that the call can do without. */
 static void refuse_all_but(int hints, bptree *map, bptree_result (*call)(bptree *), const char *name) {
     for (long request = 0;; request++) {
         size_t len = bptree_range(map, 0, before, PAIRS + 1);
@@ -104,13 +104,11 @@ static void refuse_clone(const bptree *map) {
     }
 }
 
-static void refuse_each(bptree *map, bptree_result (*call)(bptree *), const char *name) {
-    refuse_all_but(0, map, call, name);
-}
+static void refuse_each(bptree *map, bptree_result (*call)(bptree *), const char *name) { refuse_all_but(0, map, call, name); }
 
 static bptree_result put(bptree *map) { return bptree_put(map, key, key, &old); }
 static bptree_result del(bptree *map) { return bptree_del(map, key, &old); }
-static bptree_result remove_at(bptree *map) { return bptree_remove_at(map, key, &pair); }
+static bptree_result remove_at(bptree *map) { return bptree_del_at(map, key, &pair); }
 static bptree_result pop_first(bptree *map) { return bptree_pop_first(map, &pair); }
 static bptree_result pop_last(bptree *map) { return bptree_pop_last(map, &pair); }
 static bptree_result clear(bptree *map) { return bptree_clear(map) ? BPTREE_ADDED : BPTREE_NO_MEMORY; }
@@ -183,7 +181,7 @@ static void refuse_clone_of_dict(const bptree_dict *dict) {
 
 static bptree_result put_name(bptree_dict *dict) { return bptree_dict_put(dict, name, sizeof name, place, &old); }
 static bptree_result del_name(bptree_dict *dict) { return bptree_dict_del(dict, name, sizeof name, &old); }
-static bptree_result remove_place(bptree_dict *dict) { return bptree_dict_remove_at(dict, place, &old); }
+static bptree_result remove_place(bptree_dict *dict) { return bptree_dict_del_at(dict, place, &old); }
 static bptree_result pop_first_name(bptree_dict *dict) {
     string out;
     return bptree_dict_pop_first(dict, out, sizeof out, &told, &old);
@@ -314,7 +312,7 @@ static void put_many_of_each_size(void) {
             put_many(lens[i], numbers[j], 0, 2);
             must(put_many(lens[i], numbers[j], 2 * PAIRS, 3) > 0, "put_many asks for no memory");
         }
-        must(put_many(lens[i], 0, 0, 0) == 0, "put_many of none asks for memory");
+        must(put_many(lens[i], 0, 0, 0) == 0, "put_many of 0 keys asks for memory");
     }
 }
 
@@ -335,7 +333,7 @@ static void many_without_memory(void) {
     bptree_rank_many(&map, many_keys, PAIRS, places, PAIRS);
     bptree_at_many(&map, places, PAIRS, copied_keys, PAIRS, copied_values, PAIRS, found, PAIRS);
     must(bptree_copy(&map, 0, copied_keys, PAIRS, copied_values, PAIRS) == PAIRS, "copy");
-    must(bptree_put_many(&map, many_keys, 0, many_values, 0), "put_many of none");
+    must(bptree_put_many(&map, many_keys, 0, many_values, 0), "put_many of 0 keys");
     bptree_del_many(&map, many_keys, PAIRS, found, PAIRS);
     until_refusal = -1;
     must(refusals == were && bptree_len(&map) == 0, "calls for many keys need no memory");
@@ -370,9 +368,9 @@ int main(void) {
     refuse_clone(&map);
     /* An empty map allocates nothing for what is not there. */
     long were = refusals;
-    refuse_each(&map, pop_first, "pop_first of none");
-    refuse_each(&map, pop_last, "pop_last of none");
-    refuse_each(&map, del, "del of none");
+    refuse_each(&map, pop_first, "pop_first of an empty map");
+    refuse_each(&map, pop_last, "pop_last of an empty map");
+    refuse_each(&map, del, "del in an empty map");
     must(refusals == were, "requests of an empty map");
     bptree_free(&map);
     must(blocks == 0, "memory is left");

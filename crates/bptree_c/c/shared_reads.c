@@ -18,7 +18,13 @@ static const bptree_bytes *set;
 static size_t pairs, rounds;
 static atomic_size_t failures;
 
-#define must(holds) do { if (!(holds)) { printf("line %d: %s\n", __LINE__, #holds); failures++; } } while (0)
+#define must(holds)                                                                                                                                  \
+    do {                                                                                                                                             \
+        if (!(holds)) {                                                                                                                              \
+            printf("line %d: %s\n", __LINE__, #holds);                                                                                               \
+            failures++;                                                                                                                              \
+        }                                                                                                                                            \
+    } while (0)
 
 /* Pair i has the key 3 * i + 1 and the value i, and as a text the key's eight decimal digits. */
 static uint64_t key_of(size_t i) { return 3 * (uint64_t)i + 1; }
@@ -110,12 +116,11 @@ int main(int count, char **given) {
         text_of(key_of(i), text);
         must(bptree_put(&map, key_of(i), i, &old) == BPTREE_ADDED);
         must(bptree_dict_put(&dict, text, WIDTH, i, &old) == BPTREE_ADDED);
-        must(bptree_bytes_insert(&bytes, text, WIDTH) == BPTREE_ADDED);
+        must(bptree_bytes_put(&bytes, text, WIDTH) == BPTREE_ADDED);
     }
     numbers = &map, texts = &dict, set = &bytes;
     for (size_t i = 0; i < THREADS; i++) {
-        int code = i == 0 && count > 3 ? pthread_create(&threads[i], NULL, stores, &map)
-                                       : pthread_create(&threads[i], NULL, reads, (void *)i);
+        int code = i == 0 && count > 3 ? pthread_create(&threads[i], NULL, stores, &map) : pthread_create(&threads[i], NULL, reads, (void *)i);
         if (code) return 2;
     }
     for (size_t i = 0; i < THREADS; i++) pthread_join(threads[i], NULL);

@@ -1,6 +1,6 @@
 /* Times of the calls: for each number of pairs in the arguments a line for each call, its least
    time of some turns in nanoseconds a call. */
-#define NDEBUG /* as a program that is delivered is built */
+#define NDEBUG                  /* as a program that is delivered is built */
 #define _POSIX_C_SOURCE 199309L // for clock_gettime
 #include "sweep_bptree.h"
 #include <stdio.h>
@@ -33,10 +33,22 @@ static void shuffle(uint64_t *keys, size_t n) {
     }
 }
 
-static const char *names[CALLS] = {"insert", "get", "rank", "at", "next", "range of 64, a pair", "remove", "load, a pair",
-    "get of 1000 at once, a key", "rank of 1000 at once, a key", "contains of 1000 at once, a key", "at of 1000 at once, a key",
-    "put of 10000 new keys at once, a key", "put of 10000 new keys one by one, a key",
-    "del of these at once, a key", "del of these one by one, a key"};
+static const char *names[CALLS] = {"insert",
+                                   "get",
+                                   "rank",
+                                   "at",
+                                   "next",
+                                   "range of 64, a pair",
+                                   "remove",
+                                   "load, a pair",
+                                   "get of 1000 at once, a key",
+                                   "rank of 1000 at once, a key",
+                                   "contains of 1000 at once, a key",
+                                   "at of 1000 at once, a key",
+                                   "put of 10000 new keys at once, a key",
+                                   "put of 10000 new keys one by one, a key",
+                                   "del of these at once, a key",
+                                   "del of these one by one, a key"};
 static double least[CALLS];
 
 static void took(int call, double start, size_t n) {

@@ -11,8 +11,8 @@
 #include <stddef.h>
 #include <stdint.h>
 
-#define SWEEP_BPTREE_VERSION "0.6.0"
-#define SWEEP_BPTREE_VERSION_NUMBER 6000
+#define SWEEP_BPTREE_VERSION "0.7.0"
+#define SWEEP_BPTREE_VERSION_NUMBER 7000
 
 #ifdef __cplusplus
 extern "C" {
@@ -33,9 +33,13 @@ uint32_t bptree_version(void);
 
    No pointer is NULL, except that of an array whose length is given as 0. Such an array is neither
    read nor written. */
-typedef struct bptree { void *at; } bptree;
+typedef struct bptree {
+    void *at;
+} bptree;
 
-typedef struct bptree_pair { uint64_t key, value; } bptree_pair;
+typedef struct bptree_pair {
+    uint64_t key, value;
+} bptree_pair;
 
 /* The result of a call that changes a map. */
 typedef enum bptree_result {
@@ -91,7 +95,7 @@ bptree_result bptree_put(bptree *map, uint64_t key, uint64_t value, uint64_t *ol
 bptree_result bptree_del(bptree *map, uint64_t key, uint64_t *old);
 /* The pair at an index, the first and the last pair: BPTREE_REMOVED with the pair in *pair, or
    BPTREE_ABSENT. The calls need no memory and never fail. */
-bptree_result bptree_remove_at(bptree *map, size_t index, bptree_pair *pair);
+bptree_result bptree_del_at(bptree *map, size_t index, bptree_pair *pair);
 bptree_result bptree_pop_first(bptree *map, bptree_pair *pair);
 bptree_result bptree_pop_last(bptree *map, bptree_pair *pair);
 
@@ -121,10 +125,11 @@ void bptree_contains_many(const bptree *map, const uint64_t *keys, size_t n, uin
 void bptree_rank_many(const bptree *map, const uint64_t *keys, size_t n, size_t *ranks, size_t n_ranks);
 /* The key and the value at each index, and a 1 in `found`; past the last pair `keys` and `values` are
    unchanged, and `found` has a 0. */
-void bptree_at_many(const bptree *map, const size_t *indexes, size_t n, uint64_t *keys, size_t n_keys, uint64_t *values, size_t n_values, uint8_t *found, size_t n_found);
+void bptree_at_many(const bptree *map, const size_t *indexes, size_t n, uint64_t *keys, size_t n_keys, uint64_t *values, size_t n_values,
+                    uint8_t *found, size_t n_found);
 /* Stores each value at its key, all of them or none. False: an allocation failed, and nothing has
    changed. Of equal keys the last value stays. O(n log n) to sort the keys; then O(n log m) if they
-   are fewer than m / 16, and else O(n + m). */
+   are fewer than m / 6, and else O(n + m). */
 bool bptree_put_many(bptree *map, const uint64_t *keys, size_t n, const uint64_t *values, size_t n_values);
 /* Removes the keys: a 1 in `found` for each that was there, and a 0 for the others. Of a key that
    comes twice, the second one is not there. The call needs no memory and never fails. */
@@ -134,12 +139,17 @@ void bptree_del_many(bptree *map, const uint64_t *keys, size_t n, uint8_t *found
    map of numbers, and its calls cost what those do, with comparisons of keys in place of numbers.
    Keys are copied in, may be empty and may hold any bytes. The first byte that differs decides their
    order; if one of two keys is a prefix of the other, the shorter one is less. A call that looks up
-   a key compares its n bytes where they are: it allocates nothing and never fails. Beside each key
+   a key compares its n bytes without a copy: it allocates nothing and never fails. Beside each key
    the map stores its first eight bytes as a number, and compares the bytes themselves only where
    two such numbers are equal. */
-typedef struct bptree_dict { void *at; } bptree_dict;
+typedef struct bptree_dict {
+    void *at;
+} bptree_dict;
 
-typedef struct bptree_record { size_t length; uint64_t value; } bptree_record;
+typedef struct bptree_record {
+    size_t length;
+    uint64_t value;
+} bptree_record;
 
 /* Calls of a map from byte strings. They take O(log n) comparisons and steps at most, but
    bptree_dict_new and bptree_dict_len take O(1), bptree_dict_clone, bptree_dict_free and
@@ -195,7 +205,7 @@ size_t bptree_dict_page_back(const bptree_dict *dict, size_t index, uint8_t *byt
 bool bptree_dict_load(bptree_dict *dict, const uint8_t *bytes, size_t room, const bptree_record *given, size_t n);
 /* BPTREE_REMOVED with the value in *old, BPTREE_ABSENT, or BPTREE_NO_MEMORY. The call never fails
    past the end. */
-bptree_result bptree_dict_remove_at(bptree_dict *dict, size_t index, uint64_t *old);
+bptree_result bptree_dict_del_at(bptree_dict *dict, size_t index, uint64_t *old);
 /* The first and the last pair: BPTREE_REMOVED with the key in `out`, its length in *len and the value
    in *value, BPTREE_ABSENT, BPTREE_NO_ROOM with the key's length in *len if that is more than `room`,
    or BPTREE_NO_MEMORY. What is not named here is unchanged. The calls never fail for an empty map. */
@@ -204,7 +214,9 @@ bptree_result bptree_dict_pop_last(bptree_dict *dict, uint8_t *out, size_t room,
 
 /* A set of byte strings, or none: a map from byte strings whose values are all 0. Each call is the
    map's call of that name, and costs and fails as that does. */
-typedef struct bptree_bytes { bptree_dict keys; } bptree_bytes;
+typedef struct bptree_bytes {
+    bptree_dict keys;
+} bptree_bytes;
 
 /* Each of these calls is the call of bptree_dict of its name, with 0 as the value. It fails as that
    call fails, and takes what that call takes: O(log n) comparisons; O(1) for bptree_bytes_new and
@@ -215,19 +227,21 @@ static inline void bptree_bytes_free(bptree_bytes *set) { bptree_dict_free(&set-
 static inline bool bptree_bytes_clear(bptree_bytes *set) { return bptree_dict_clear(&set->keys); }
 static inline size_t bptree_bytes_len(const bptree_bytes *set) { return bptree_dict_len(&set->keys); }
 static inline bool bptree_bytes_contains(const bptree_bytes *set, const uint8_t *key, size_t n) { return bptree_dict_contains(&set->keys, key, n); }
-static inline bool bptree_bytes_rank(const bptree_bytes *set, const uint8_t *key, size_t n, size_t *rank) { return bptree_dict_rank(&set->keys, key, n, rank); }
+static inline bool bptree_bytes_rank(const bptree_bytes *set, const uint8_t *key, size_t n, size_t *rank) {
+    return bptree_dict_rank(&set->keys, key, n, rank);
+}
 /* BPTREE_ADDED, BPTREE_REPLACED if the key was there, or BPTREE_NO_MEMORY. */
-static inline bptree_result bptree_bytes_insert(bptree_bytes *set, const uint8_t *key, size_t n) {
+static inline bptree_result bptree_bytes_put(bptree_bytes *set, const uint8_t *key, size_t n) {
     uint64_t old;
     return bptree_dict_put(&set->keys, key, n, 0, &old);
 }
-static inline bptree_result bptree_bytes_remove(bptree_bytes *set, const uint8_t *key, size_t n) {
+static inline bptree_result bptree_bytes_del(bptree_bytes *set, const uint8_t *key, size_t n) {
     uint64_t old;
     return bptree_dict_del(&set->keys, key, n, &old);
 }
-static inline bptree_result bptree_bytes_remove_at(bptree_bytes *set, size_t index) {
+static inline bptree_result bptree_bytes_del_at(bptree_bytes *set, size_t index) {
     uint64_t old;
-    return bptree_dict_remove_at(&set->keys, index, &old);
+    return bptree_dict_del_at(&set->keys, index, &old);
 }
 static inline size_t bptree_bytes_range_len(const bptree_bytes *set, const uint8_t *from, size_t n, const uint8_t *to, size_t m) {
     return bptree_dict_range_len(&set->keys, from, n, to, m);

@@ -1,4 +1,4 @@
--- Lemma: a list of clones of pairs, where only equal keys compare as equal, is the list itself.
+-- A list of clones of pairs is the list itself, if only equal keys compare as equal.
 use Rattle.std.proofs.Common.{◌≡◌, ℕ, List, [], ◌∷◌, refl, sym}
 use Rattle.std.specs.declared.cmp.Ordering.{Ordering}
 use Rattle.std.specs.declared.cmp.Ordering.TheVariants.{Equal}

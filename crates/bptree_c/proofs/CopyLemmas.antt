@@ -3,7 +3,7 @@ use Rattle.std.proofs.Common.{◌≡◌, ℕ, zero, suc, ◌+◌, ◌<◌, ◌�
 use Rattle.bptree_c.specs.declared.pair.Pair.{Pair}
 use Rattle.bptree_c.specs.Pairs.{as_pair}
 
--- with one pair more
+-- one pair more is copied
 step_by : (all : List (ℕ × ℕ)) (room : List Pair) (i : ℕ) (p : ℕ × ℕ) (rest : List (ℕ × ℕ)) → i < length room → drop i all ≡ p ∷ rest
     → slice_set (map as_pair (take i all) ++ drop i room) i (as_pair p) ≡ map as_pair (take (suc i) all) ++ drop (suc i) room
 step_by [] room zero p rest fits is = absurd cc
@@ -22,7 +22,7 @@ pub copied_more : (all : List (ℕ × ℕ)) (room out : List Pair) (i : ℕ) (p 
     → slice_set out i (as_pair p) ≡ map as_pair (take (i + 1) all) ++ drop (i + 1) room
 copied_more all room out i p rest so_far fits is = rw (so_far, add-one) (step_by all room i p rest fits is)
 
--- none is left
+-- no pair is left to copy
 pub all_copied : (all : List (ℕ × ℕ)) (n i : ℕ) → i ≤ length all → drop i all ≡ [] → i ≤ n → (i ≡ length (take n all)) × (take i all ≡ take n all)
 all_copied [] zero zero h is fits = (refl, refl)
 all_copied [] (suc n) zero h is fits = (refl, refl)

@@ -1,4 +1,4 @@
--- Lemmas: the pairs that an iterator returns at its ends, and the pairs above a key.
+-- The pairs that an iterator returns at its ends, and the pairs above a key.
 use Rattle.std.proofs.Common.{◌≡◌, ap, sym, refl, ◌-◌, List, [], ◌∷◌, true, false, cond, not, ◌&&◌, length, slice_get, Option, Some, None}
 use Rattle.std.specs.declared.cmp.Ordering.{Ordering}
 use Rattle.std.specs.declared.ops.Bound.TheVariants.{Excluded, Unbounded}
@@ -10,7 +10,7 @@ use Rattle.bptree_keys.specs.Contents.{pairs_above}
 use Rattle.bptree_nodes.proofs.Pairs.{last_apart}
 use Rattle.bptree_ranges.specs.Bounds.{between_bounds}
 
--- the pairs above k
+-- the pairs behind the excluded bound k are those above k
 pub pairs_after : {K V : Type 0} (cmp : K → K → Ordering) (l : List (K × V)) (k : K) → between_bounds cmp l (Excluded k) Unbounded ≡ pairs_above cmp l k
 pairs_after cmp [] k = refl
 pairs_after cmp (p ∷ l) k =

@@ -3,13 +3,13 @@ use Rattle.std.proofs.Common.{◌≡◌, ℕ, zero, suc, ◌+◌, ◌<◌, ◌�
 use Rattle.std.proofs.Math.Seq.{take-nil, take-append_seam, drop-append-add, drop-drop}
 use Rattle.std.proofs.lemmas.List.{append-nil, drop_all}
 use Rattle.std.proofs.lemmas.Map.Entries.{length-keys_of}
-use Rattle.bptree_arguments.specs.CountLaws.{SelectsPlace}
-use Rattle.bptree_descents.specs.ByArgument.{IsPartSelected}
+use Rattle.bptree_arguments.specs.CountLaws.{SelectsIndex}
+use Rattle.bptree_search.specs.ByArgument.{IsPartSelected}
 use Rattle.bptree_keys.specs.Ranges.{part}
 use Rattle.bptree_c.specs.Dict.{Pairs}
 use Rattle.bptree_c.specs.DictPages.{key_bytes}
 
-pub part_is : {K V : Type 0} (l : List (K × V)) (i n : ℕ) (found : List (K × V)) → IsPartSelected SelectsPlace i l n found → found ≡ part l i n
+pub part_is : {K V : Type 0} (l : List (K × V)) (i n : ℕ) (found : List (K × V)) → IsPartSelected SelectsIndex i l n found → found ≡ part l i n
 part_is l i n found (None, no_place, past, shown) =
     let beyond : length l ≤ i = rw (length-keys_of l) at past in
     shown ∙ sym (ap (take n) (drop_all i l beyond) ∙ take-nil n)
@@ -51,7 +51,7 @@ module _ {X : Type 0} where
   past_get (a ∷ all) zero x past is = omega (arith, past)
   past_get (a ∷ all) (suc i) x past is = past_get all i x (omega (arith, past)) is
 
-  -- a part written behind the first ones
+  -- a key that is written behind the first members
   pub written : (front key init out : List X) (used : ℕ) → out ≡ front ++ drop used init → used ≡ length front
       → take used out ++ (key ++ drop (used + length key) out) ≡ (front ++ key) ++ drop (used + length key) init
   written front key init out used is long =

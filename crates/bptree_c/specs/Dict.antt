@@ -9,7 +9,10 @@ use Rattle.bptree_c.specs.ByteKeys.{by_bytes}
 abbrev pub Pairs : Type 0
 Pairs = List (List ℕ × ℕ)
 
--- what a call writes for a pair, by what an array, its key's length and a number hold before and after the call: the array begins with as many of the key's bytes as it takes, and the rest of it is unchanged; then the key's whole length, and the value. Without a pair nothing is written
+-- The values of an array, of a length and of a number before and after a call that writes a pair:
+-- the array begins with as many of the key's bytes as it has room for, and the rest of it is
+-- unchanged; the length is the key's whole length, and the number is the pair's value. If there is
+-- no pair, nothing is written.
 abbrev pub WritesPair : Option (List ℕ × ℕ) → Bool → List ℕ × ℕ × ℕ → List ℕ × ℕ × ℕ → Type 0
 WritesPair None found old new = (found ≡ false) × (new ≡ old)
 WritesPair (Some pair) found old new = (found ≡ true) × (new ≡ (take (length old.0) pair.0 ++ drop (length pair.0) old.0, length pair.0, pair.1))
@@ -19,14 +22,15 @@ abbrev pub WritesOnlyIf : Bool → List ℕ → ℕ → ℕ → List ℕ → ℕ
 WritesOnlyIf found out len value new_out new_len new_value =
     found ≡ false → (new_out ≡ out) × (new_len ≡ len) × (new_value ≡ value)
 
--- the value that was at the key, or none, and the list with the new value there, or without the key
+-- the value that was at the key, or `None`, and the list with the new value there, or without the
+-- key
 abbrev pub IsPutIn : Pairs → List ℕ → ℕ → Option ℕ → Option Pairs → Type 0
 IsPutIn old key new was held = (value by_bytes old key ≡ was) × (held ≡ Some (put by_bytes old key new))
 
 abbrev pub IsRemovedKey : Pairs → List ℕ → Option ℕ → Option Pairs → Type 0
 IsRemovedKey old key was held = (value by_bytes old key ≡ was) × (held ≡ Some (del by_bytes old key))
 
--- the pair at an index is removed, and its value returned
+-- the pair at an index is removed, and its value is returned
 abbrev pub IsRemovedAt : Pairs → ℕ → Option Pairs → ℕ → Type 0
 IsRemovedAt old i new was = (slice_get (values_of old) i ≡ Some was) × (new ≡ Some (remove old i))
 

@@ -5,6 +5,6 @@ pub mod DictEnds
 pub mod DictPages
 pub mod Ends
 pub mod Held
-pub mod Lending
+pub mod Borrowing
 pub mod Pairs
 pub mod Results

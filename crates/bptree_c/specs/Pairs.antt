@@ -1,4 +1,4 @@
--- Pairs as C has them, and what is copied into a caller's array.
+-- Pairs as C has them, and their copies in a caller's array.
 use Rattle.std.specs.Prelude.{◌≡◌, ℕ, Bool, true, false, List, [], ◌∷◌, ◌++◌, Option, MatchOption, length, map, take, drop}
 use Rattle.std.specs.Ordering.{nat_cmp}
 use Rattle.bptree_c.specs.declared.pair.Pair.{Pair}
@@ -12,7 +12,7 @@ as_tuple pair = (pair.key, pair.value)
 abbrev pub as_pair : ℕ × ℕ → Pair
 as_pair pair = record { key = pair.0; value = pair.1 }
 
--- the list of the pairs of an array in any order: of equal keys the last
+-- the list of the pairs of an array in any order; of equal keys the last pair stays
 abbrev pub pairs_gathered : List Pair → List (ℕ × ℕ)
 pairs_gathered given = gather nat_cmp (map as_tuple given)
 
@@ -26,6 +26,6 @@ abbrev pub IsCopied : List (ℕ × ℕ) → List Pair → List Pair → ℕ → 
 IsCopied l old new count =
     (count ≡ length (take (length old) l)) × (new ≡ map as_pair (take (length old) l) ++ drop count old)
 
--- the first pair was taken off the list, or there was none
-abbrev pub IsTaken : List (ℕ × ℕ) → Option Pair → List (ℕ × ℕ) → Type 0
-IsTaken old taken new = MatchOption taken (old ≡ []) (λ pair. old ≡ as_tuple pair ∷ new)
+-- the first pair was removed from the list, or the list was empty
+abbrev pub IsPairTaken : List (ℕ × ℕ) → Option Pair → List (ℕ × ℕ) → Type 0
+IsPairTaken old taken new = MatchOption taken (old ≡ []) (λ pair. old ≡ as_tuple pair ∷ new)

@@ -19,13 +19,14 @@ RemovesFirst old new written = (rest : List (ℕ × ℕ)) × (old ≡ as_tuple w
 abbrev pub RemovesLast : List (ℕ × ℕ) → Option (List (ℕ × ℕ)) → Pair → Type 0
 RemovesLast old new written = (rest : List (ℕ × ℕ)) × (old ≡ rest ++ as_tuple written ∷ []) × (new ≡ Some rest)
 
--- the pair at an index was removed from the list, if there is one, and is what is returned
-abbrev pub TakesAt : List (ℕ × ℕ) → ℕ → List (ℕ × ℕ) → Option (ℕ × ℕ) → Type 0
-TakesAt old i new taken = (taken ≡ slice_get old i) × (new ≡ remove old i)
+-- the pair at an index is returned and was removed from the list, if there is one
+abbrev pub ResultTakesAt : List (ℕ × ℕ) → ℕ → List (ℕ × ℕ) → Option (ℕ × ℕ) → Type 0
+ResultTakesAt old i new taken = (taken ≡ slice_get old i) × (new ≡ remove old i)
 
--- the code `none` for `None`; the code `some` for a value, which is then what C reads; and 2 for an error. But for a value what C reads is unchanged
+-- the code is `none` for `None`, `some` for a value, which is then what C reads, and 2 for an
+-- error; unless there is a value, what C reads is unchanged
 abbrev pub HasCode : {X Y : Type 0} → ℕ → ℕ → (Y → X) → Result (Option X) AllocError → ℕ → Y → Y → Type 0
-HasCode none some read answer code old new = MatchResult answer
+HasCode none some read outcome code old new = MatchResult outcome
     (λ found. MatchOption found ((code ≡ none) × (new ≡ old)) (λ it. (code ≡ some) × (it ≡ read new)))
     (λ _. (code ≡ 2) × (new ≡ old))
 
@@ -33,7 +34,8 @@ HasCode none some read answer code old new = MatchResult answer
 abbrev pub HasPairCode : Result (Option (ℕ × ℕ)) AllocError → ℕ → Pair → Pair → Type 0
 HasPairCode = HasCode 0 1 as_tuple
 
--- a value that was at the key, or none, and the list with the new value there, or without the key
+-- the value that was at the key, or `None`, and the list with the new value there, or without the
+-- key
 abbrev pub IsPutAt : List (ℕ × ℕ) → ℕ → ℕ → Option ℕ → Option (List (ℕ × ℕ)) → Type 0
 IsPutAt old key new was held = (value nat_cmp old key ≡ was) × (held ≡ Some (put nat_cmp old key new))
 

@@ -1,19 +1,21 @@
-//! Calls of a map of numbers for many keys or indexes at once. Groups of 16 go down the tree side by
-//! side, so that the processor waits for the nodes of all of them at once.
+//! Calls of a map of numbers for many keys or indexes at once. The descents of 16 of them go side
+//! by side, so that the processor waits for the nodes of all of them at once.
 ghost use Rattle.std.specs.Prelude.{◌≡◌, ℕ, List, [], Some, true, false, length, if◌then◌else◌};
 ghost use Rattle.std.specs.Ordering.{nat_cmp};
 ghost use Rattle.bptree_batches.specs.Each.{keys_at_each, mark_at_each, mark_each, ranked_each, read_each, values_at_each};
 ghost use Rattle.bptree_c.specs.Batch.{gone_marks, put_columns};
 ghost use Rattle.bptree_keys.specs.Contents.{del, has};
-ghost use Rattle.bptree_maps.specs.Many.{without_each};
+ghost use Rattle.bptree_map.specs.Many.{without_each};
 
 use crate::handle::{Handle, Map};
 use crate::writing::del_in;
 use bptree_batches::many::{copy_index_many, copy_many, mark_many};
 
-/// Writes the value at each given key to `values` at the key's index, and 1 to `found` there. For a
-/// key that is absent `values` is unchanged, and `found` gets 0. Each array has the length of
-/// `keys`. O(k log n) for k keys, in groups of 16 whose descents go side by side.
+/// Writes the value at each given key to `values` at the key's index, and 1 to `found` there. For
+/// an absent key `values` is unchanged, and `found` gets 0. Each array has the length of `keys`.
+///
+/// O(k log n) for k keys, in groups of 16 whose descents go side by side. It allocates nothing and
+/// cannot fail.
 #[unsafe(no_mangle)]
 pub extern "C" fn bptree_get_many(
     map: &mut Handle,
@@ -32,8 +34,8 @@ pub extern "C" fn bptree_get_many(
     copy_many(map.peek().pairs.tree().nodes(), keys, values, found, 1, 0);
 }
 
-/// Writes 1 to `found` for each given key that is there, at the key's index, and 0 for each that is
-/// not. `found` has the length of `keys`. It costs what `bptree_get_many` does.
+/// Writes 1 to `found` for each given key that is present, at the key's index, and 0 for each other
+/// key. `found` has the length of `keys`. It costs what `bptree_get_many` does.
 #[unsafe(no_mangle)]
 pub extern "C" fn bptree_contains_many(map: &mut Handle, keys: &[u64], found: &mut [u8])
     ghost pairs: { List (ℕ × ℕ) }
@@ -58,9 +60,11 @@ pub extern "C" fn bptree_rank_many(map: &mut Handle, keys: &[u64], ranks: &mut [
     map.peek().pairs.rank_many(keys, ranks);
 }
 
-/// Writes the key and the value at each index in the order of the keys to `keys` and `values`, and 1
-/// to `found`. Past the last pair `keys` and `values` are unchanged, and `found` gets 0. Each array
-/// has the length of `indexes`. O(k log n) for k indexes.
+/// Writes the key and the value at each index in the order of the keys to `keys` and `values`, and
+/// 1 to `found`. Past the last pair `keys` and `values` are unchanged, and `found` gets 0. Each
+/// array has the length of `indexes`.
+///
+/// O(k log n) for k indexes. It allocates nothing and cannot fail.
 #[unsafe(no_mangle)]
 pub extern "C" fn bptree_at_many(
     map: &mut Handle,
@@ -83,12 +87,13 @@ pub extern "C" fn bptree_at_many(
     copy_index_many(nodes, indexes, keys, values, found, 1, 0);
 }
 
-/// Stores each value at its key, all of them or none: false if an allocation failed, and then the map
-/// is unchanged. Of equal keys the last value stays. `values` has the length of `keys`. Storing no
-/// keys never fails.
+/// Stores each value at its key, all of them or none. It returns false if an allocation failed;
+/// then the map is unchanged. Of equal keys the last value stays. `values` has the length of
+/// `keys`. Storing no keys never fails.
 ///
-/// O(k log k) to sort k keys. Then it stores them one after another in the order of the keys, if they
-/// are fewer than a sixteenth of the map's, in O(k log n). Else it merges both lists in O(n + k).
+/// O(k log k) to sort k keys. Then it stores them one after another in the order of the keys, if
+/// they are less than a sixth of the map's, in O(k log n). Otherwise it merges both lists in
+/// O(n + k).
 #[unsafe(no_mangle)]
 pub extern "C" fn bptree_put_many(map: &mut Handle, keys: &[u64], values: &[u64]) -> bool
     ghost pairs: { List (ℕ × ℕ) }
@@ -96,7 +101,7 @@ pub extern "C" fn bptree_put_many(map: &mut Handle, keys: &[u64], values: &[u64]
     requires values { length values.now ≡ length keys.now }
     ensures put { result ≡ true → map.new.held ≡ Some (put_columns pairs keys.now values.now) }
     ensures no_memory { result ≡ false → map.new.held ≡ Some pairs }
-    ensures sure { keys.now ≡ [] → result ≡ true }
+    ensures infallible { keys.now ≡ [] → result ≡ true }
 {
     put_all(map.peek(), keys, values)
 }
@@ -105,14 +110,16 @@ fn put_all(map: &mut Map, keys: &[u64], values: &[u64]) -> bool
     requires values { length values.now ≡ length keys.now }
     ensures put { result ≡ true → map.new ≡ put_columns map.old keys.now values.now }
     ensures no_memory { result ≡ false → map.new ≡ map.old }
-    ensures sure { keys.now ≡ [] → result ≡ true }
+    ensures infallible { keys.now ≡ [] → result ≡ true }
 {
     map.pairs.extend_from_columns(keys, values).is_ok()
 }
 
-/// Removes the keys, and writes 1 to `found` for each that was there, at the key's index, and 0 for
-/// each that was not. Of a key that comes twice the second one is not there. `found` has the length
-/// of `keys`. It does not allocate and never fails. O(k log n) for k keys.
+/// Removes the keys, and writes 1 to `found` for each that was present, at the key's index, and 0
+/// for each that was not. If a key comes twice, its second occurrence is not present. `found` has
+/// the length of `keys`.
+///
+/// O(k log n) for k keys. It allocates nothing and cannot fail.
 #[unsafe(no_mangle)]
 pub extern "C" fn bptree_del_many(map: &mut Handle, keys: &[u64], found: &mut [u8])
     ghost pairs: { List (ℕ × ℕ) }
@@ -136,7 +143,7 @@ fn del_all(map: &mut Map, keys: &[u64], found: &mut [u8])
     }
 }
 
-// Removes a key: 1 if it was there, and 0 if not.
+// Removes a key. It returns 1 if the key was present, and 0 if not.
 fn del_mark(map: &mut Map, key: u64) -> u8
     ensures left { map.new ≡ del nat_cmp map.old key }
     ensures mark { result ≡ (if has nat_cmp map.old key then 1 else 0) }

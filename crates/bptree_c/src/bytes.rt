@@ -34,7 +34,7 @@ impl Model for Bytes {
 }
 
 impl Bytes {
-    /// A copy of the given bytes. It fails if the allocation for them does.
+    /// A copy of the given bytes. It fails if the allocation for them fails.
     pub(crate) fn copy_of(alloc: Global, given: &[u8]) -> Result<Bytes, AllocError>
         ensures { IfOk result (λ bytes. bytes ≡ given.now) }
     {
@@ -107,7 +107,7 @@ impl Key for Bytes {
     ghost clone_is_equal = { λ x y same. equal_if_same nat_list_cmp_total x y same };
 }
 
-/// A caller's bytes, which represent the key of the same bytes during a call.
+/// A caller's bytes, which represent the key with the same bytes during a call.
 #[derive(Drop)]
 pub(crate) struct View<'a> {
     head: u64,

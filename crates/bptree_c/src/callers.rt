@@ -1,4 +1,4 @@
-//! Callers of the exports of a map of numbers, which know nothing of them but their contracts.
+//! Callers of the exports of a map of numbers, which use only the contracts of these.
 ghost use Rattle.std.specs.Prelude.{◌≡◌, ◌∷◌, ℕ, List, [], Some, true, unwrap_or};
 ghost use Rattle.std.specs.Ordering.{nat_cmp};
 ghost use Rattle.bptree_keys.specs.Contents.{value};
@@ -8,9 +8,9 @@ use crate::handle::Handle;
 use crate::many::bptree_range;
 use crate::pair::Pair;
 use crate::reading::{bptree_at, bptree_first, bptree_get, bptree_last, bptree_next, bptree_prev};
-use crate::writing::{bptree_del, bptree_pop_first, bptree_pop_last, bptree_put, bptree_remove_at};
+use crate::writing::{bptree_del, bptree_del_at, bptree_pop_first, bptree_pop_last, bptree_put};
 
-// The value at a key is written, and not the key.
+// `bptree_get` writes the value at a key, and not the key.
 fn finds_the_value(map: &mut Handle) -> bool
     requires open { map.old.held ≡ Some ((7, 70) ∷ []) }
     ensures { result ≡ true }
@@ -19,7 +19,7 @@ fn finds_the_value(map: &mut Handle) -> bool
     bptree_get(map, 7, &mut found) && found == 70
 }
 
-// Of two pairs the greater one is removed.
+// `bptree_pop_last` removes the greater of two pairs.
 fn takes_the_greater(map: &mut Handle) -> bool
     requires open { map.old.held ≡ Some ((1, 10) ∷ (2, 20) ∷ []) }
     ensures { result ≡ true }
@@ -28,7 +28,7 @@ fn takes_the_greater(map: &mut Handle) -> bool
     bptree_pop_last(map, &mut pair) == 1 && pair.key == 2 && pair.value == 20
 }
 
-// A key that is there is removed, and its value returned, whatever the allocator does.
+// `bptree_del` removes a key that is present, and returns its value, whatever the allocator does.
 fn deletes_the_only(map: &mut Handle) -> (u32, u64)
     requires open { map.old.held ≡ Some ((7, 70) ∷ []) }
     ensures returned { result ≡ (1, 70) }
@@ -50,7 +50,7 @@ fn value_or(map: &mut Handle, key: u64, other: u64) -> u64
     found
 }
 
-// Of no pair nothing is written: what was there is unchanged.
+// Without a pair nothing is written: `pair` is unchanged.
 fn first_or_same(map: &mut Handle) -> bool
     ghost pairs: { List (ℕ × ℕ) }
     requires open { map.old.held ≡ Some pairs }
@@ -103,7 +103,7 @@ fn removed_or_same(map: &mut Handle, index: usize) -> bool
     ensures { result ≡ true }
 {
     let mut pair = Pair { key: 5, value: 6 };
-    bptree_remove_at(map, index, &mut pair) == 1 || (pair.key == 5 && pair.value == 6)
+    bptree_del_at(map, index, &mut pair) == 1 || (pair.key == 5 && pair.value == 6)
 }
 
 fn popped_first_or_same(map: &mut Handle) -> bool
@@ -124,7 +124,7 @@ fn popped_last_or_same(map: &mut Handle) -> bool
     bptree_pop_last(map, &mut pair) == 1 || (pair.key == 5 && pair.value == 6)
 }
 
-// A call writes nothing either for a key that had no value, or if it fails.
+// A call writes nothing for a key that had no value, and nothing if it fails.
 fn replaced_or_same(map: &mut Handle, key: u64, new: u64) -> bool
     ghost pairs: { List (ℕ × ℕ) }
     requires open { map.old.held ≡ Some pairs }
@@ -143,7 +143,7 @@ fn deleted_or_same(map: &mut Handle, key: u64) -> bool
     bptree_del(map, key, &mut old) == 1 || old == 5
 }
 
-// The same of an array of keys as of one: a value at an absent key is unchanged.
+// An array of one key is read as the key alone: a value at an absent key is unchanged.
 fn value_of_many_or(map: &mut Handle, key: u64, other: u64) -> u64
     ghost pairs: { List (ℕ × ℕ) }
     requires open { map.old.held ≡ Some pairs }
@@ -155,7 +155,7 @@ fn value_of_many_or(map: &mut Handle, key: u64, other: u64) -> u64
     values[0]
 }
 
-// Behind the pairs that are copied, here none, an array is unchanged.
+// An array is unchanged behind the pairs that are copied, here no pairs.
 fn copies_none(map: &mut Handle) -> bool
     requires open { map.old.held ≡ Some [] }
     ensures { result ≡ true }

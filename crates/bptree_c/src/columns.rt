@@ -6,11 +6,13 @@ ghost use Rattle.bptree_keys.specs.Ranges.{part};
 use crate::handle::Handle;
 use crate::many::part_of;
 use bptree_arguments::count::Count;
-use bptree_maps::map::Iter;
+use bptree_map::map::Iter;
 
-/// Copies the pairs from an index on, in the order of their keys, until the arrays are full or there
-/// are no more: each key to `keys`, and its value to `values`, which has the same length. It returns
-/// how many. O(log n) and O(1) a pair. It does not allocate and never fails.
+/// Copies the pairs from an index on, in the order of their keys, until the arrays are full or no
+/// pairs are left: each key to `keys`, and its value to `values`, which has the same length. It
+/// returns the number of pairs.
+///
+/// O(log n), and O(1) a pair. It allocates nothing and cannot fail.
 #[unsafe(no_mangle)]
 pub extern "C" fn bptree_copy(
     map: &mut Handle,

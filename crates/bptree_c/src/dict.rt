@@ -1,5 +1,5 @@
 //! The calls of a map from byte strings to numbers. A look-up compares the caller's bytes in place:
-//! it does not allocate and never fails.
+//! it allocates nothing and cannot fail.
 ghost use Rattle.std.specs.Prelude.{◌≡◌, ◌≢◌, ◌≤◌, ◌++◌, ℕ, List, [], Some, None, Ok, IfOk, OnErr, IsOk, IsTrue, false, length, slice_get, take, drop};
 ghost use Rattle.std.specs.Map.{keys_of};
 ghost use Rattle.std.specs.Map.Iter.{deref_pair};
@@ -13,12 +13,13 @@ ghost use Rattle.bptree_tree.specs.Changes.{Puts, Removes};
 use crate::bytes::{Bytes, View};
 use crate::dict_handle::{Dict, DictHandle};
 use crate::results::{removed_value, stored_value};
-use bptree_maps::map::BPlusTreeMap;
+use bptree_map::map::BPlusTreeMap;
 use bptree_probes::changing::{remove_by, replace_by};
 use bptree_probes::reading::{get_by, has_by, next_by, previous_by, rank_by};
 use std::alloc::{AllocError, Global};
 
-/// Makes a map with no pairs. It is false if an allocation fails; then the handle holds no map.
+/// Makes a map with no pairs. It returns false if an allocation fails; then the handle holds no
+/// map.
 #[unsafe(no_mangle)]
 pub extern "C" fn bptree_dict_new(alloc: Global, dict: &mut DictHandle) -> bool
     requires closed { dict.old.held ≡ None }
@@ -38,8 +39,8 @@ pub extern "C" fn bptree_dict_new(alloc: Global, dict: &mut DictHandle) -> bool
     }
 }
 
-/// Makes a copy of a map in a handle that holds none. It is false if an allocation fails; then that
-/// handle holds none. O(n).
+/// Makes a copy of a map in a handle that holds no map. It returns false if an allocation fails;
+/// then that handle holds no map. O(n).
 #[unsafe(no_mangle)]
 pub extern "C" fn bptree_dict_clone(
     alloc: Global,
@@ -72,7 +73,7 @@ fn copy_of(alloc: Global, dict: &Dict) -> Result<Box<Dict>, AllocError>
     }
 }
 
-/// Frees a map. The handle then holds none. O(n).
+/// Frees a map. The handle then holds no map. O(n).
 #[unsafe(no_mangle)]
 pub extern "C" fn bptree_dict_free(alloc: Global, dict: &mut DictHandle)
     ghost pairs: { Pairs }
@@ -82,7 +83,7 @@ pub extern "C" fn bptree_dict_free(alloc: Global, dict: &mut DictHandle)
     let _whole = dict.take(alloc);
 }
 
-/// Removes all pairs. It allocates one node first, and is false if that fails; then the map is
+/// Removes all pairs. It allocates one node first, and returns false if that fails; then the map is
 /// unchanged.
 #[unsafe(no_mangle)]
 pub extern "C" fn bptree_dict_clear(dict: &mut DictHandle) -> bool
@@ -105,7 +106,7 @@ pub extern "C" fn bptree_dict_len(dict: &mut DictHandle) -> usize
     dict.peek().pairs.len()
 }
 
-/// Whether a key is there. O(log n).
+/// Whether a key is present. O(log n).
 #[unsafe(no_mangle)]
 pub extern "C" fn bptree_dict_contains(dict: &mut DictHandle, key: &[u8]) -> bool
     ghost pairs: { Pairs }
@@ -116,8 +117,8 @@ pub extern "C" fn bptree_dict_contains(dict: &mut DictHandle, key: &[u8]) -> boo
     has_by(&dict.peek().pairs, &View::of(key))
 }
 
-/// The value at a key, in `found`. It is false if the key is absent; then `found` is unchanged.
-/// O(log n).
+/// Writes the value at a key to `found`. It returns false if the key is absent; then `found` is
+/// unchanged. O(log n).
 #[unsafe(no_mangle)]
 pub extern "C" fn bptree_dict_get(dict: &mut DictHandle, key: &[u8], found: &mut u64) -> bool
     ghost pairs: { Pairs }
@@ -142,7 +143,8 @@ fn value_in(dict: &Dict, key: &[u8]) -> Option<u64>
     get_by(&dict.pairs, &View::of(key)).copied()
 }
 
-/// The number of smaller keys, in `rank`, and whether the key itself is there. O(log n).
+/// Writes the number of smaller keys to `rank`, and returns whether the key itself is present.
+/// O(log n).
 #[unsafe(no_mangle)]
 pub extern "C" fn bptree_dict_rank(dict: &mut DictHandle, key: &[u8], rank: &mut usize) -> bool
     ghost pairs: { Pairs }
@@ -166,9 +168,9 @@ fn rank_in(dict: &Dict, key: &[u8]) -> (bool, usize)
     }
 }
 
-/// Stores a value at a key: 3 if the key is new, and 4 if it had a value, which is then in `old`.
-/// It is 2 if an allocation fails; then the map is unchanged. At 2 and 3 `old` is unchanged. A new
-/// key is copied in. It never fails for a key that is there. O(log n).
+/// Stores a value at a key. It returns 3 if the key is new, and 4 if it had a value, which is then
+/// in `old`. It returns 2 if an allocation fails; then the map is unchanged. At 2 and 3 `old` is
+/// unchanged. A new key is copied in. The call never fails for a key that is present. O(log n).
 #[unsafe(no_mangle)]
 pub extern "C" fn bptree_dict_put(
     alloc: Global,
@@ -184,17 +186,17 @@ pub extern "C" fn bptree_dict_put(
     ensures replaced { result ≡ 4 → IsPutIn pairs key.now new (Some old.new) dict.new.held }
     ensures no_memory { result ≡ 2 → dict.new.held ≡ Some pairs }
     ensures unchanged { result ≢ 4 → old.new ≡ old.old }
-    ensures sure { IsTrue (has by_bytes pairs key.now) → result ≢ 2 }
+    ensures infallible { IsTrue (has by_bytes pairs key.now) → result ≢ 2 }
 {
     stored_value(put_in(alloc, dict.peek(), key, new), old)
 }
 
-// The key is copied first, so that one descent serves whether the key is there or not. If the copy
-// fails, the value of a key that is there is replaced in place.
+// The key is copied first, so that one descent serves a present key and an absent one. If the copy
+// fails, the value of a present key is replaced in place.
 fn put_in(alloc: Global, dict: &mut Dict, key: &[u8], new: u64) -> Result<Option<u64>, AllocError>
     ensures ok { IfOk result (Puts by_bytes key.now new dict.old dict.new) }
     ensures present { IsTrue (has by_bytes dict.old key.now) → IsOk result }
-    ensures err { OnErr result (dict.new ≡ dict.old) }
+    ensures unchanged { OnErr result (dict.new ≡ dict.old) }
 {
     match Bytes::copy_of(alloc, key) {
         Ok(own) => insert_in(dict, own, new),
@@ -205,7 +207,7 @@ fn put_in(alloc: Global, dict: &mut Dict, key: &[u8], new: u64) -> Result<Option
 fn insert_in(dict: &mut Dict, key: Bytes, new: u64) -> Result<Option<u64>, AllocError>
     ensures ok { IfOk result (Puts by_bytes key new dict.old dict.new) }
     ensures present { IsTrue (has by_bytes dict.old key) → IsOk result }
-    ensures err { OnErr result (dict.new ≡ dict.old) }
+    ensures unchanged { OnErr result (dict.new ≡ dict.old) }
 {
     match dict.pairs.insert(key, new) {
         Ok(old) => Ok(old),
@@ -216,7 +218,7 @@ fn insert_in(dict: &mut Dict, key: Bytes, new: u64) -> Result<Option<u64>, Alloc
 fn replace_in(dict: &mut Dict, key: &[u8], new: u64) -> Result<Option<u64>, AllocError>
     ensures ok { IfOk result (Puts by_bytes key.now new dict.old dict.new) }
     ensures present { IsTrue (has by_bytes dict.old key.now) → IsOk result }
-    ensures err { OnErr result (dict.new ≡ dict.old) }
+    ensures unchanged { OnErr result (dict.new ≡ dict.old) }
 {
     match replace_by(&mut dict.pairs, &View::of(key), new) {
         Ok(was) => Ok(Some(was)),
@@ -224,9 +226,9 @@ fn replace_in(dict: &mut Dict, key: &[u8], new: u64) -> Result<Option<u64>, Allo
     }
 }
 
-/// Removes the pair at a key: 1 if there was one, whose value is then in `old`, and 0 if not. It is
-/// 2 if a copy of a key fails, which a node may need; then the map is unchanged. It never fails for
-/// a key that is not there. At 0 and 2 `old` is unchanged.
+/// Removes the pair at a key. It returns 1 if there was one, whose value is then in `old`, and 0 if
+/// not. It returns 2 if a copy of a key fails, which a node may need; then the map is unchanged.
+/// The call never fails for an absent key. At 0 and 2 `old` is unchanged.
 #[unsafe(no_mangle)]
 pub extern "C" fn bptree_dict_del(dict: &mut DictHandle, key: &[u8], old: &mut u64) -> u32
     ghost pairs: { Pairs }
@@ -236,7 +238,7 @@ pub extern "C" fn bptree_dict_del(dict: &mut DictHandle, key: &[u8], old: &mut u
     ensures removed { result ≡ 1 → IsRemovedKey pairs key.now (Some old.new) dict.new.held }
     ensures no_memory { result ≡ 2 → dict.new.held ≡ Some pairs }
     ensures unchanged { result ≢ 1 → old.new ≡ old.old }
-    ensures sure { has by_bytes pairs key.now ≡ false → result ≡ 0 }
+    ensures infallible { has by_bytes pairs key.now ≡ false → result ≡ 0 }
 {
     removed_value(del_in(dict.peek(), key), old)
 }
@@ -244,12 +246,12 @@ pub extern "C" fn bptree_dict_del(dict: &mut DictHandle, key: &[u8], old: &mut u
 fn del_in(dict: &mut Dict, key: &[u8]) -> Result<Option<u64>, AllocError>
     ensures ok { IfOk result (Removes by_bytes key.now dict.old dict.new) }
     ensures absent { has by_bytes dict.old key.now ≡ false → result ≡ Ok None }
-    ensures err { OnErr result (dict.new ≡ dict.old) }
+    ensures unchanged { OnErr result (dict.new ≡ dict.old) }
 {
     remove_by(&mut dict.pairs, &View::of(key))
 }
 
-// Whether there is a pair. If there is one, its key is copied and its value written.
+// Returns whether there is a pair. If there is one, its key is copied and its value written.
 fn write_pair(
     pair: Option<(&Bytes, &u64)>,
     out: &mut [u8],
@@ -268,7 +270,7 @@ fn write_pair(
     }
 }
 
-// Copies as many bytes as `out` takes, and returns how many there are.
+// Copies as many bytes as `out` has room for, and returns the number of bytes of the key.
 pub(crate) fn copy(key: &[u8], out: &mut [u8]) -> usize
     ensures copied { out.new ≡ take (length out.old) key.now ++ drop (length key.now) out.old }
     ensures whole { result ≡ length key.now }
@@ -278,9 +280,9 @@ pub(crate) fn copy(key: &[u8], out: &mut [u8]) -> usize
     key.len()
 }
 
-/// The pair with the least key: `out` begins with as many of the key's bytes as it takes, the key's
-/// whole length is in `len`, and the value in `value`. It is false if the map is empty; then
-/// nothing is written.
+/// Writes the pair with the least key: `out` begins with as many of the key's bytes as it has room
+/// for, the key's whole length is in `len`, and the value in `value`. It returns false if the map
+/// is empty; then nothing is written.
 #[unsafe(no_mangle)]
 pub extern "C" fn bptree_dict_first(
     dict: &mut DictHandle,
@@ -297,7 +299,7 @@ pub extern "C" fn bptree_dict_first(
     write_pair(dict.peek().pairs.first(), out, len, value)
 }
 
-/// The pair with the greatest key, written as `bptree_dict_first` does.
+/// Writes the pair with the greatest key as `bptree_dict_first` does.
 #[unsafe(no_mangle)]
 pub extern "C" fn bptree_dict_last(
     dict: &mut DictHandle,
@@ -314,8 +316,8 @@ pub extern "C" fn bptree_dict_last(
     write_pair(dict.peek().pairs.last(), out, len, value)
 }
 
-/// The pair at an index in the order of the keys, from 0 on, written as `bptree_dict_first` does.
-/// It is false past the end; then nothing is written.
+/// Writes the pair at an index in the order of the keys, from 0 on, as `bptree_dict_first` does. It
+/// returns false past the end; then nothing is written.
 #[unsafe(no_mangle)]
 pub extern "C" fn bptree_dict_at(
     dict: &mut DictHandle,
@@ -330,11 +332,11 @@ pub extern "C" fn bptree_dict_at(
     ensures written { WritesPair (slice_get pairs index) result (out.old, len.old, value.old) (out.new, len.new, value.new) }
     ensures unchanged { WritesOnlyIf result out.old len.old value.old out.new len.new value.new }
 {
-    write_pair(dict.peek().pairs.get_at(index), out, len, value)
+    write_pair(dict.peek().pairs.get_index(index), out, len, value)
 }
 
-/// The pair with the least greater key, written as `bptree_dict_first` does. It is false if there
-/// is none; then nothing is written.
+/// Writes the pair with the least greater key as `bptree_dict_first` does. It returns false if
+/// there is no such key; then nothing is written.
 #[unsafe(no_mangle)]
 pub extern "C" fn bptree_dict_next(
     dict: &mut DictHandle,
@@ -353,7 +355,7 @@ pub extern "C" fn bptree_dict_next(
     write_pair(found, out, len, value)
 }
 
-/// The pair with the greatest smaller key, written as `bptree_dict_next` does.
+/// Writes the pair with the greatest smaller key as `bptree_dict_next` does.
 #[unsafe(no_mangle)]
 pub extern "C" fn bptree_dict_prev(
     dict: &mut DictHandle,

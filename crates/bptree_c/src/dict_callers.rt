@@ -1,5 +1,5 @@
-//! Callers of the exports of a map of byte strings, which know nothing of them but their contracts.
-//! Where there is no pair, or the call fails, nothing is written: what was there is unchanged.
+//! Callers of the exports of a map from byte strings, which use only the contracts of these. If
+//! there is no pair, or the call fails, nothing is written: the values of before are unchanged.
 ghost use Rattle.std.specs.Prelude.{◌≡◌, [], ◌∷◌, Some, None, IsTrue, true, unwrap_or};
 ghost use Rattle.bptree_c.specs.ByteKeys.{by_bytes};
 ghost use Rattle.bptree_c.specs.Dict.{Pairs};
@@ -11,7 +11,7 @@ use crate::dict::{
 };
 use crate::dict_ends::{bptree_dict_pop_first, bptree_dict_pop_last};
 use crate::dict_handle::DictHandle;
-use crate::dict_load::bptree_dict_remove_at;
+use crate::dict_load::bptree_dict_del_at;
 use crate::dict_many::{bptree_dict_page, bptree_dict_page_back, bptree_dict_values};
 use crate::record::Record;
 use std::alloc::Global;
@@ -111,10 +111,10 @@ fn removed_or_same(dict: &mut DictHandle, index: usize) -> bool
     ensures { result ≡ true }
 {
     let mut old = 5;
-    bptree_dict_remove_at(dict, index, &mut old) == 1 || old == 5
+    bptree_dict_del_at(dict, index, &mut old) == 1 || old == 5
 }
 
-// Behind what is copied, here nothing, arrays are unchanged.
+// An array is unchanged behind the values that are copied, here no values.
 fn copies_no_value(dict: &mut DictHandle) -> bool
     requires open { dict.old.held ≡ Some [] }
     ensures { result ≡ true }
@@ -138,7 +138,7 @@ fn copies_no_pair(dict: &mut DictHandle) -> bool
         && out[0].value == 9
 }
 
-// Of two pairs the lesser one is removed, or the call fails.
+// `bptree_dict_pop_first` removes the lesser of two pairs, or fails.
 fn pops_the_lesser(dict: &mut DictHandle) -> bool
     requires open { dict.old.held ≡ Some ((7 ∷ [], 70) ∷ (8 ∷ [], 80) ∷ []) }
     ensures { result ≡ true }
@@ -150,7 +150,7 @@ fn pops_the_lesser(dict: &mut DictHandle) -> bool
     code == 2 || (code == 1 && out[0] == 7 && out[1] == 5 && len == 1 && value == 70)
 }
 
-// And the greater one.
+// `bptree_dict_pop_last` removes the greater of two pairs, or fails.
 fn pops_the_greater(dict: &mut DictHandle) -> bool
     requires open { dict.old.held ≡ Some ((7 ∷ [], 70) ∷ (8 ∷ [], 80) ∷ []) }
     ensures { result ≡ true }
@@ -162,7 +162,7 @@ fn pops_the_greater(dict: &mut DictHandle) -> bool
     code == 2 || (code == 1 && out[0] == 8 && out[1] == 5 && len == 1 && value == 80)
 }
 
-// A key that does not fit stays, and its length is written, or the call fails.
+// A key that does not fit stays in the map, and its length is written, or the call fails.
 fn pops_no_long_key(dict: &mut DictHandle) -> bool
     requires open { dict.old.held ≡ Some ((7 ∷ 8 ∷ [], 70) ∷ []) }
     ensures said { result ≡ true }
@@ -175,7 +175,7 @@ fn pops_no_long_key(dict: &mut DictHandle) -> bool
     out[0] == 5 && value == 9 && (code == 2 && len == 6 || code == 5 && len == 2)
 }
 
-// A copy has the pairs, and the map keeps them.
+// A copy has the pairs of the map, which keeps them.
 fn copies_all(alloc: Global, dict: &mut DictHandle, to: &mut DictHandle) -> bool
     ghost pairs: { Pairs }
     requires open { dict.old.held ≡ Some pairs }
@@ -186,7 +186,7 @@ fn copies_all(alloc: Global, dict: &mut DictHandle, to: &mut DictHandle) -> bool
     bptree_dict_clone(alloc, dict, to)
 }
 
-// Downward, too, arrays are unchanged behind what is copied, here nothing.
+// Arrays are unchanged behind the pairs that are copied downward, here no pairs.
 fn copies_no_pair_back(dict: &mut DictHandle) -> bool
     requires open { dict.old.held ≡ Some [] }
     ensures { result ≡ true }

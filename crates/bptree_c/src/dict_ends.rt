@@ -3,7 +3,7 @@ ghost use Rattle.std.specs.Prelude.{◌≡◌, ◌≢◌, ◌≤◌, ◌++◌, [
 ghost use Rattle.std.specs.Map.Iter.{TakesFirst, TakesLast};
 ghost use Rattle.std.specs.Option.{option_map};
 ghost use Rattle.bptree_c.specs.Dict.{Pairs};
-ghost use Rattle.bptree_c.specs.DictEnds.{HasPopCode, IsTooLong, PopsFirst, PopsLast, fits_in};
+ghost use Rattle.bptree_c.specs.DictEnds.{HasPopCode, IsTooLong, DictPopsFirst, DictPopsLast, fits_in};
 ghost use Rattle.bptree_keys.specs.Contents.{last_member};
 
 use crate::bytes::Bytes;
@@ -12,10 +12,11 @@ use crate::dict_handle::{Dict, DictHandle};
 use crate::results::{ABSENT, NO_MEMORY, NO_ROOM, REMOVED};
 use std::alloc::AllocError;
 
-/// Removes the pair with the least key: 1 if there was one. Then `out` begins with its key, whose
-/// length is in `len`, and its value is in `value`. It is 0 if the map is empty. It is 5 if the key
-/// does not fit into `out`; then its length is in `len`. It is 2 if a copy of a key fails, which a
-/// node may need. Unless it is 1 the map is unchanged, and nothing else is written. O(log n).
+/// Removes the pair with the least key. It returns 1 if there was one: then `out` begins with its
+/// key, whose length is in `len`, and its value is in `value`. It returns 0 if the map is empty. It
+/// returns 5 if the key does not fit into `out`; then its length is in `len`. It returns 2 if a
+/// copy of a key fails, which a node may need. Unless it returns 1 the map is unchanged, and
+/// nothing else is written. O(log n).
 #[unsafe(no_mangle)]
 pub extern "C" fn bptree_dict_pop_first(
     dict: &mut DictHandle,
@@ -27,12 +28,12 @@ pub extern "C" fn bptree_dict_pop_first(
     requires open { dict.old.held ≡ Some pairs }
     ensures codes { result ≢ 5 → result ≤ 2 }
     ensures empty { result ≡ 0 → (pairs ≡ []) × (dict.new.held ≡ Some pairs) }
-    ensures removed { result ≡ 1 → PopsFirst pairs dict.new.held out.old (out.new, len.new, value.new) }
+    ensures removed { result ≡ 1 → DictPopsFirst pairs dict.new.held out.old (out.new, len.new, value.new) }
     ensures no_memory { result ≡ 2 → dict.new.held ≡ Some pairs }
     ensures no_room { result ≡ 5 → IsTooLong (slice_get pairs 0) out.old len.new × (dict.new.held ≡ Some pairs) }
     ensures unchanged { result ≢ 1 → (out.new ≡ out.old) × (value.new ≡ value.old) }
     ensures len_unchanged { result ≢ 1 → result ≢ 5 → len.new ≡ len.old }
-    ensures sure { pairs ≡ [] → result ≡ 0 }
+    ensures infallible { pairs ≡ [] → result ≡ 0 }
 {
     match first_length(dict.peek()) {
         Some(length) if length > out.len() => {
@@ -55,22 +56,22 @@ fn first_length(dict: &Dict) -> Option<usize>
 fn pop_first_in(dict: &mut Dict) -> Result<Option<(Bytes, u64)>, AllocError>
     ensures ok { IfOk result (λ gone. TakesFirst (λ pair. pair) dict.old gone dict.new) }
     ensures empty { dict.old ≡ [] → (result ≡ Ok None) × (dict.new ≡ dict.old) }
-    ensures err { OnErr result (dict.new ≡ dict.old) }
+    ensures unchanged { OnErr result (dict.new ≡ dict.old) }
 {
     dict.pairs.pop_first()
 }
 
-// The result of a removal. If a pair was removed it is written, and else nothing is.
+// The result of a removal. A pair is written if one was removed; otherwise nothing is written.
 fn write_popped(
-    answer: Result<Option<(Bytes, u64)>, AllocError>,
+    outcome: Result<Option<(Bytes, u64)>, AllocError>,
     out: &mut [u8],
     len: &mut usize,
     value: &mut u64,
 ) -> u32
-    requires { fits_in answer out.old }
-    ensures { HasPopCode answer result out.old (out.old, len.old, value.old) (out.new, len.new, value.new) }
+    requires { fits_in outcome out.old }
+    ensures { HasPopCode outcome result out.old (out.old, len.old, value.old) (out.new, len.new, value.new) }
 {
-    match answer {
+    match outcome {
         Ok(Some((key, it))) => {
             *len = copy(key.as_slice(), out);
             *value = it;
@@ -93,12 +94,12 @@ pub extern "C" fn bptree_dict_pop_last(
     requires open { dict.old.held ≡ Some pairs }
     ensures codes { result ≢ 5 → result ≤ 2 }
     ensures empty { result ≡ 0 → (pairs ≡ []) × (dict.new.held ≡ Some pairs) }
-    ensures removed { result ≡ 1 → PopsLast pairs dict.new.held out.old (out.new, len.new, value.new) }
+    ensures removed { result ≡ 1 → DictPopsLast pairs dict.new.held out.old (out.new, len.new, value.new) }
     ensures no_memory { result ≡ 2 → dict.new.held ≡ Some pairs }
     ensures no_room { result ≡ 5 → IsTooLong (last_member pairs) out.old len.new × (dict.new.held ≡ Some pairs) }
     ensures unchanged { result ≢ 1 → (out.new ≡ out.old) × (value.new ≡ value.old) }
     ensures len_unchanged { result ≢ 1 → result ≢ 5 → len.new ≡ len.old }
-    ensures sure { pairs ≡ [] → result ≡ 0 }
+    ensures infallible { pairs ≡ [] → result ≡ 0 }
 {
     match last_length(dict.peek()) {
         Some(length) if length > out.len() => {
@@ -121,7 +122,7 @@ fn last_length(dict: &Dict) -> Option<usize>
 fn pop_last_in(dict: &mut Dict) -> Result<Option<(Bytes, u64)>, AllocError>
     ensures ok { IfOk result (λ gone. TakesLast (λ pair. pair) dict.old gone dict.new) }
     ensures empty { dict.old ≡ [] → (result ≡ Ok None) × (dict.new ≡ dict.old) }
-    ensures err { OnErr result (dict.new ≡ dict.old) }
+    ensures unchanged { OnErr result (dict.new ≡ dict.old) }
 {
     dict.pairs.pop_last()
 }

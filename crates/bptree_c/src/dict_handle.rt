@@ -1,11 +1,11 @@
-//! What a caller in C holds of a map of byte strings: one pointer, as `Handle` is of a map of
+//! A caller's handle in C for a map from byte strings: one pointer, as `Handle` is for a map of
 //! numbers.
 ghost use Rattle.std.specs.Prelude.{◌≡◌, ℕ, List, [], Option, Some, None, IsSome, IfOk, IsTrue};
 
 use crate::bytes::Bytes;
-use crate::loose::Loose;
+use crate::raw_box::RawBox;
 use bptree_arguments::count::Count;
-use bptree_maps::map::BPlusTreeMap;
+use bptree_map::map::BPlusTreeMap;
 use std::alloc::Global;
 use std::marker::Model;
 use std::{mem, ptr};
@@ -24,7 +24,7 @@ impl Model for Dict {
     ghost view = { λ dict. dict.pairs };
 }
 
-/// A map, or none. The map is on the heap, and `at` points to it.
+/// A map, or no map. The map is on the heap, and `at` points to it.
 #[repr(C)]
 #[derive(Drop)]
 pub struct DictHandle {
@@ -41,7 +41,7 @@ impl Model for DictHandle {
 
 impl DictHandle {
     ghost use Rattle.std.specs.Borrow.{sem};
-    ghost use Rattle.bptree_c.specs.Lending.{LendsDict};
+    ghost use Rattle.bptree_c.specs.Borrowing.{BorrowsDict};
 
     fn empty() -> DictHandle
         ensures { result.held ≡ None }
@@ -51,19 +51,19 @@ impl DictHandle {
         }
     }
 
-    fn lower(loose: Loose<Dict, Global>) -> DictHandle
-        ensures { result.held ≡ Some loose.value }
+    fn from_raw(raw_box: RawBox<Dict, Global>) -> DictHandle
+        ensures { result.held ≡ Some raw_box.value }
     {
-        let Loose { at, alloc: _ } = loose;
+        let RawBox { at, alloc: _ } = raw_box;
         DictHandle { at: at as *mut u8 }
     }
 
-    fn raise(self, alloc: Global) -> Loose<Dict, Global>
+    fn into_raw(self, alloc: Global) -> RawBox<Dict, Global>
         requires { IsSome self.held }
         ensures { Some result.value ≡ self.held }
     {
         let DictHandle { at } = self;
-        Loose {
+        RawBox {
             at: at as *mut Dict,
             alloc,
         }
@@ -72,7 +72,7 @@ impl DictHandle {
     /// The map, which stays in its handle. The handle itself is not written.
     pub(crate) fn peek(&mut self) -> &mut Dict
         requires { IsSome self.old.held }
-        ensures* writes_back { sem 𝓛 (LendsDict self.entry result) }
+        ensures* writes_back { sem 𝓛 (BorrowsDict self.entry result) }
         ensures value { Some result.now ≡ self.old.held }
     {
         let at = self.at as *mut Dict;
@@ -86,15 +86,15 @@ impl DictHandle {
         ensures left { self.new.held ≡ None }
     {
         mem::replace(self, DictHandle::empty())
-            .raise(alloc)
+            .into_raw(alloc)
             .into_box()
     }
 
-    /// Puts a map into a handle that holds none.
+    /// Puts a map into a handle that holds no map.
     pub(crate) fn give(&mut self, map: Box<Dict>)
         requires { self.old.held ≡ None }
         ensures { self.new.held ≡ Some map.value }
     {
-        *self = DictHandle::lower(Loose::of(map));
+        *self = DictHandle::from_raw(RawBox::of(map));
     }
 }

@@ -1,5 +1,5 @@
-//! Calls of a map from byte strings that copy many pairs at once into a caller's arrays. None of
-//! them fails.
+//! Calls of a map from byte strings that copy many pairs at once into a caller's arrays. These
+//! calls cannot fail.
 ghost use Rattle.std.specs.Prelude.{◌≡◌, ◌+◌, ◌-◌, ◌≤◌, ◌++◌, ℕ, List, [], Some, length, reverse, take, drop, MatchOption};
 ghost use Rattle.std.specs.Map.{keys_of, values_of};
 ghost use Rattle.std.specs.Map.Iter.{deref_pair};
@@ -8,7 +8,7 @@ ghost use Rattle.bptree_arguments.specs.CountLaws.{count_below};
 ghost use Rattle.bptree_c.specs.ByteKeys.{by_bytes};
 ghost use Rattle.bptree_c.specs.Dict.{Pairs};
 ghost use Rattle.bptree_c.specs.DictPages.{IsPage};
-ghost use Rattle.bptree_c.specs.Ends.{TakesNext, back_before, turned};
+ghost use Rattle.bptree_c.specs.Ends.{EndTakesNext, back_before, turned_pairs};
 ghost use Rattle.bptree_keys.specs.Ends.{is_back};
 ghost use Rattle.bptree_keys.specs.Ranges.{part};
 
@@ -17,7 +17,7 @@ use crate::dict_handle::{Dict, DictHandle};
 use crate::record::Record;
 use bptree_arguments::count::Count;
 use bptree_keys::end::End;
-use bptree_maps::map::Iter;
+use bptree_map::map::Iter;
 use bptree_probes::reading::smaller_than;
 
 /// The number of keys that are at least `from` and less than `to`.
@@ -34,7 +34,7 @@ pub extern "C" fn bptree_dict_range_len(dict: &mut DictHandle, from: &[u8], to: 
 }
 
 /// Copies the values of the pairs from an index on, in the order of their keys, until the array is
-/// full or there are no more. It returns how many.
+/// full or no pairs are left. It returns the number of values.
 #[unsafe(no_mangle)]
 pub extern "C" fn bptree_dict_values(dict: &mut DictHandle, index: usize, out: &mut [u64]) -> usize
     ghost pairs: { Pairs }
@@ -75,9 +75,9 @@ fn copy_values(mut left: Iter<'_, Bytes, u64, Count>, out: &mut [u64]) -> usize
 }
 
 /// Copies pairs from an index on, in the order of their keys: the keys' bytes one after another,
-/// and of each pair a record of its key's length and its value. It stops if the records are used
-/// up, the next key does not fit into what is left of the bytes, or there are no more. It returns
-/// how many.
+/// and for each pair a record of its key's length and its value. It stops if the records are used
+/// up, the next key does not fit into the rest of the bytes, or no pairs are left. It returns the
+/// number of pairs.
 #[unsafe(no_mangle)]
 pub extern "C" fn bptree_dict_page(
     dict: &mut DictHandle,
@@ -95,7 +95,7 @@ pub extern "C" fn bptree_dict_page(
 }
 
 /// Copies the pairs before an index, from the one just before it down, as `bptree_dict_page` does
-/// upward. An index past the end is that behind the last pair.
+/// upward. An index past the end counts as the one behind the last pair.
 #[unsafe(no_mangle)]
 pub extern "C" fn bptree_dict_page_back(
     dict: &mut DictHandle,
@@ -124,7 +124,7 @@ fn part_before(dict: &Dict, index: usize, n: usize) -> Iter<'_, Bytes, u64, Coun
     }
 }
 
-// An index of a list of so many members, which is not past its end.
+// An index into a list of `len` members, at most its end.
 fn clipped(index: usize, len: usize) -> usize
     ensures within { result ≤ len }
     ensures as_far { (l : Pairs) → length l ≡ len → take result l ≡ take index l }
@@ -140,7 +140,7 @@ fn copy_pairs(
     out: &mut [Record],
 ) -> usize
     requires { length left ≤ length out.old }
-    ensures { IsPage (turned (is_back end) left.entry) bytes.old out.old bytes.new out.new result }
+    ensures { IsPage (turned_pairs (is_back end) left.entry) bytes.old out.old bytes.new out.new result }
 {
     let mut count = 0;
     let mut used = 0;
@@ -167,7 +167,7 @@ fn copy_pairs(
 
 // Takes the pair at an end.
 fn take_entry<'a>(left: &mut Iter<'a, Bytes, u64, Count>, end: End) -> Option<(&'a Bytes, &'a u64)>
-    ensures { TakesNext (turned (is_back end) left.old) (option_map deref_pair result) (turned (is_back end) left.new) }
+    ensures { EndTakesNext (turned_pairs (is_back end) left.old) (option_map deref_pair result) (turned_pairs (is_back end) left.new) }
 {
     match end {
         End::Front => left.next(),

@@ -1,10 +1,10 @@
 //! A map from numbers to numbers and a map from byte strings to numbers, both with indices, as
 //! functions for callers in C. `include/sweep_bptree.h` declares them.
 //!
-//! A caller keeps a `Handle`: a pointer to a map on the heap, or none. Each function calls the map
-//! where it is; its contract is the map's own, stated again over the list that the handle holds. A
-//! call that reads writes neither to the handle nor to the map. A `DictHandle` is the same of a map
-//! from byte strings.
+//! A caller keeps a `Handle`: a pointer to a map on the heap, or a null pointer. Each function
+//! calls the map at its address; its contract is the map's own, stated over the list that the
+//! handle holds. A call that reads writes neither to the handle nor to the map. A `DictHandle` is
+//! such a handle for a map from byte strings.
 #![tactic(auto)]
 
 mod batch;
@@ -18,11 +18,11 @@ mod dict_handle;
 mod dict_load;
 mod dict_many;
 mod handle;
-mod loose;
 mod making;
 mod many;
 mod number;
 mod pair;
+mod raw_box;
 mod reading;
 mod record;
 mod results;
@@ -41,7 +41,7 @@ pub use dict::{
 };
 pub use dict_ends::{bptree_dict_pop_first, bptree_dict_pop_last};
 pub use dict_handle::DictHandle;
-pub use dict_load::{bptree_dict_load, bptree_dict_remove_at};
+pub use dict_load::{bptree_dict_del_at, bptree_dict_load};
 pub use dict_many::{
     bptree_dict_page, bptree_dict_page_back, bptree_dict_range_len, bptree_dict_values,
 };
@@ -55,4 +55,4 @@ pub use reading::{
 };
 pub use record::Record;
 pub use version::bptree_version;
-pub use writing::{bptree_del, bptree_pop_first, bptree_pop_last, bptree_put, bptree_remove_at};
+pub use writing::{bptree_del, bptree_del_at, bptree_pop_first, bptree_pop_last, bptree_put};

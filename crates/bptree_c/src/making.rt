@@ -1,14 +1,15 @@
-//! How a map is made, copied, filled at once, emptied and freed.
+//! Calls that make, copy, load, empty and free a map.
 ghost use Rattle.std.specs.Prelude.{◌≡◌, ℕ, List, [], Some, None, IsTrue, false, IfOk, OnErr, map as each};
 ghost use Rattle.bptree_c.specs.Pairs.{as_tuple, pairs_gathered};
 
 use crate::handle::{Handle, Map};
 use crate::pair::Pair;
 use bptree_arguments::count::Count;
-use bptree_maps::map::BPlusTreeMap;
+use bptree_map::map::BPlusTreeMap;
 use std::alloc::{AllocError, Global};
 
-/// Makes a map with no pairs. It is false if an allocation fails; then the handle holds no map.
+/// Makes a map with no pairs. It returns false if an allocation fails; then the handle holds no
+/// map.
 #[unsafe(no_mangle)]
 pub extern "C" fn bptree_new(alloc: Global, map: &mut Handle) -> bool
     requires closed { map.old.held ≡ None }
@@ -28,8 +29,8 @@ pub extern "C" fn bptree_new(alloc: Global, map: &mut Handle) -> bool
     }
 }
 
-/// Makes a copy of a map in a handle that holds none. It is false if an allocation fails; then that
-/// handle holds none. O(n).
+/// Makes a copy of a map in a handle that holds no map. It returns false if an allocation fails;
+/// then that handle holds no map. O(n).
 #[unsafe(no_mangle)]
 pub extern "C" fn bptree_clone(alloc: Global, map: &mut Handle, to: &mut Handle) -> bool
     ghost pairs: { List (ℕ × ℕ) }
@@ -58,7 +59,7 @@ fn copy_of(alloc: Global, map: &Map) -> Result<Box<Map>, AllocError>
     }
 }
 
-/// Frees a map. The handle then holds none. O(n).
+/// Frees a map. The handle then holds no map. O(n).
 #[unsafe(no_mangle)]
 pub extern "C" fn bptree_free(alloc: Global, map: &mut Handle)
     ghost pairs: { List (ℕ × ℕ) }
@@ -68,7 +69,7 @@ pub extern "C" fn bptree_free(alloc: Global, map: &mut Handle)
     let _whole = map.take(alloc);
 }
 
-/// Removes all pairs. It allocates one node first, and is false if that fails; then the map is
+/// Removes all pairs. It allocates one node first, and returns false if that fails; then the map is
 /// unchanged. O(n).
 #[unsafe(no_mangle)]
 pub extern "C" fn bptree_clear(map: &mut Handle) -> bool
@@ -80,9 +81,9 @@ pub extern "C" fn bptree_clear(map: &mut Handle) -> bool
     map.peek().pairs.clear().is_ok()
 }
 
-/// Replaces what the map holds by the given pairs, in any order: of equal keys the last one stays.
-/// It is false if an allocation fails; then the map is unchanged. O(n log n), and O(n) for sorted
-/// pairs.
+/// Replaces the contents of the map by the given pairs, in any order: of equal keys the last one
+/// stays. It returns false if an allocation fails; then the map is unchanged. O(n log n), and O(n)
+/// for sorted pairs.
 #[unsafe(no_mangle)]
 pub extern "C" fn bptree_load(alloc: Global, map: &mut Handle, given: &[Pair]) -> bool
     ghost pairs: { List (ℕ × ℕ) }
@@ -95,7 +96,7 @@ pub extern "C" fn bptree_load(alloc: Global, map: &mut Handle, given: &[Pair]) -
 
 fn load_into(alloc: Global, map: &mut Map, given: &[Pair]) -> Result<(), AllocError>
     ensures ok { IfOk result (λ _. map.new ≡ pairs_gathered given.now) }
-    ensures err { OnErr result (map.new ≡ map.old) }
+    ensures unchanged { OnErr result (map.new ≡ map.old) }
 {
     map.pairs = pairs_gathered(alloc, given)?;
     Ok(())

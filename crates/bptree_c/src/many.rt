@@ -1,8 +1,8 @@
-//! Calls that copy many pairs at once into a caller's array. None of them fails.
+//! Calls that copy many pairs at once into a caller's array. These calls cannot fail.
 ghost use Rattle.std.specs.Prelude.{◌≡◌, ◌≤◌, ℕ, List, Some, None, length, reverse, take};
 ghost use Rattle.std.specs.Ordering.{nat_cmp};
-ghost use Rattle.bptree_c.specs.Ends.{up_to, back_from, turned};
-ghost use Rattle.bptree_c.specs.Pairs.{IsCopied, IsTaken};
+ghost use Rattle.bptree_c.specs.Ends.{pairs_up_to_key, pairs_back_from, turned_pairs};
+ghost use Rattle.bptree_c.specs.Pairs.{IsCopied, IsPairTaken};
 ghost use Rattle.bptree_keys.specs.Ends.{is_back};
 ghost use Rattle.bptree_keys.specs.Ranges.{between, part};
 ghost use Rattle.bptree_tree.specs.Pages.{page};
@@ -12,11 +12,11 @@ use crate::number::Number;
 use crate::pair::Pair;
 use bptree_arguments::count::Count;
 use bptree_keys::end::End;
-use bptree_maps::map::Iter;
+use bptree_map::map::Iter;
 use bptree_probes::reading::{end_by, start_by};
 
 /// Copies the pairs whose keys are at least `from`, in the order of their keys, until the array is
-/// full or there are no more. It returns how many.
+/// full or no pairs are left. It returns the number of pairs.
 #[unsafe(no_mangle)]
 pub extern "C" fn bptree_range(map: &mut Handle, from: u64, out: &mut [Pair]) -> usize
     ghost pairs: { List (ℕ × ℕ) }
@@ -29,20 +29,20 @@ pub extern "C" fn bptree_range(map: &mut Handle, from: u64, out: &mut [Pair]) ->
 }
 
 /// Copies the pairs whose keys are at most `from`, from the greatest key down, until the array is
-/// full or there are no more. It returns how many.
+/// full or no pairs are left. It returns the number of pairs.
 #[unsafe(no_mangle)]
 pub extern "C" fn bptree_range_back(map: &mut Handle, from: u64, out: &mut [Pair]) -> usize
     ghost pairs: { List (ℕ × ℕ) }
     requires open { map.old.held ≡ Some pairs }
     ensures kept { map.new.held ≡ Some pairs }
-    ensures copied { IsCopied (back_from pairs from) out.old out.new result }
+    ensures copied { IsCopied (pairs_back_from pairs from) out.old out.new result }
 {
     let pairs = pairs_up_to(map.peek(), from, out.len());
     copy(pairs, End::Back, out)
 }
 
-/// Copies the pairs of a page. Each page has as many pairs as the array takes, and the first page is
-/// 0. It returns how many: none past the last page, and none if the array takes none.
+/// Copies the pairs of a page. Each page has as many pairs as the array has room for, and the first
+/// page is 0. It returns the number of pairs: 0 past the last page, and 0 if the array is empty.
 #[unsafe(no_mangle)]
 pub extern "C" fn bptree_page(map: &mut Handle, number: usize, out: &mut [Pair]) -> usize
     ghost pairs: { List (ℕ × ℕ) }
@@ -85,7 +85,7 @@ pub(crate) fn part_of(map: &Map, index: usize, n: usize) -> Iter<'_, u64, u64, C
 
 // At most `n` pairs up to the greatest key that is at most `key`.
 fn pairs_up_to(map: &Map, key: u64, n: usize) -> Iter<'_, u64, u64, Count>
-    ensures { reverse result ≡ take n (back_from map.now key) }
+    ensures { reverse result ≡ take n (pairs_back_from map.now key) }
 {
     let end = end_by(&map.pairs, &Number { key });
     if n < end {
@@ -97,7 +97,7 @@ fn pairs_up_to(map: &Map, key: u64, n: usize) -> Iter<'_, u64, u64, Count>
 
 // Copies the pairs one after another from an end.
 fn copy(mut left: Iter<'_, u64, u64, Count>, end: End, out: &mut [Pair]) -> usize
-    ensures { IsCopied (turned (is_back end) left.entry) out.old out.new result }
+    ensures { IsCopied (turned_pairs (is_back end) left.entry) out.old out.new result }
 {
     let mut count = 0;
     while count < out.len() {
@@ -114,7 +114,7 @@ fn copy(mut left: Iter<'_, u64, u64, Count>, end: End, out: &mut [Pair]) -> usiz
 
 // Takes the pair at an end.
 fn take_pair(left: &mut Iter<'_, u64, u64, Count>, end: End) -> Option<Pair>
-    ensures { IsTaken (turned (is_back end) left.old) result (turned (is_back end) left.new) }
+    ensures { IsPairTaken (turned_pairs (is_back end) left.old) result (turned_pairs (is_back end) left.new) }
 {
     let taken = match end {
         End::Front => left.next(),

@@ -4,7 +4,7 @@ ghost use Rattle.std.specs.Prelude.{◌≡◌};
 use bptree_probes::probe::Probe;
 use std::cmp::Ordering;
 
-/// A number, which represents the key that it is.
+/// A number, which represents itself as a key.
 #[derive(Clone, Copy)]
 pub(crate) struct Number {
     pub(crate) key: u64,

@@ -1,5 +1,5 @@
-//! Calls that read a map of numbers. None of them fails, allocates, or writes to the map or to its
-//! handle.
+//! Calls that read a map of numbers. These calls cannot fail, allocate nothing, and write neither
+//! to the map nor to its handle.
 ghost use Rattle.std.specs.Prelude.{◌≡◌, ℕ, List, Option, Some, None, IsTrue, false, length, slice_get};
 ghost use Rattle.std.specs.Map.{keys_of};
 ghost use Rattle.std.specs.Option.{option_map};
@@ -27,7 +27,7 @@ pub extern "C" fn bptree_len(map: &mut Handle) -> usize
     map.peek().pairs.len()
 }
 
-/// Whether a key is there. O(log n).
+/// Whether a key is present. O(log n).
 #[unsafe(no_mangle)]
 pub extern "C" fn bptree_contains(map: &mut Handle, key: u64) -> bool
     ghost pairs: { List (ℕ × ℕ) }
@@ -38,8 +38,8 @@ pub extern "C" fn bptree_contains(map: &mut Handle, key: u64) -> bool
     has_uncached(&map.peek().pairs, &key)
 }
 
-/// The value at a key, in `found`. It is false if the key is absent; then `found` is unchanged.
-/// O(log n).
+/// Writes the value at a key to `found`. It returns false if the key is absent; then `found` is
+/// unchanged. O(log n).
 #[unsafe(no_mangle)]
 pub extern "C" fn bptree_get(map: &mut Handle, key: u64, found: &mut u64) -> bool
     ghost pairs: { List (ℕ × ℕ) }
@@ -64,8 +64,8 @@ pub(crate) fn value_in(map: &Map, key: u64) -> Option<u64>
     get_uncached(&map.pairs, &key).copied()
 }
 
-/// The pair with the least key, in `pair`. It is false if the map is empty; then `pair` is
-/// unchanged. O(log n).
+/// Writes the pair with the least key to `pair`. It returns false if the map is empty; then `pair`
+/// is unchanged. O(log n).
 #[unsafe(no_mangle)]
 pub extern "C" fn bptree_first(map: &mut Handle, pair: &mut Pair) -> bool
     ghost pairs: { List (ℕ × ℕ) }
@@ -94,7 +94,7 @@ fn owned(pair: Option<(&u64, &u64)>) -> Option<(u64, u64)>
     }
 }
 
-// Whether there is a pair. If there is one it is written, and else nothing is.
+// Returns whether there is a pair. A pair is written if there is one; otherwise nothing is written.
 fn write_pair(found: Option<(u64, u64)>, pair: &mut Pair) -> bool
     ensures { IsWritten found result pair.old pair.new }
 {
@@ -107,8 +107,8 @@ fn write_pair(found: Option<(u64, u64)>, pair: &mut Pair) -> bool
     }
 }
 
-/// The pair with the greatest key, in `pair`. It is false if the map is empty; then `pair` is
-/// unchanged. O(log n).
+/// Writes the pair with the greatest key to `pair`. It returns false if the map is empty; then
+/// `pair` is unchanged. O(log n).
 #[unsafe(no_mangle)]
 pub extern "C" fn bptree_last(map: &mut Handle, pair: &mut Pair) -> bool
     ghost pairs: { List (ℕ × ℕ) }
@@ -127,8 +127,8 @@ fn last_in(map: &Map) -> Option<(u64, u64)>
     owned(map.pairs.last())
 }
 
-/// The pair with the least greater key, in `pair`. It is false if there is none; then `pair` is
-/// unchanged. O(log n).
+/// Writes the pair with the least greater key to `pair`. It returns false if there is no such key;
+/// then `pair` is unchanged. O(log n).
 #[unsafe(no_mangle)]
 pub extern "C" fn bptree_next(map: &mut Handle, key: u64, pair: &mut Pair) -> bool
     ghost pairs: { List (ℕ × ℕ) }
@@ -147,8 +147,8 @@ fn next_in(map: &Map, key: u64) -> Option<(u64, u64)>
     owned(next_by(&map.pairs, &Number { key }))
 }
 
-/// The pair with the greatest smaller key, in `pair`. It is false if there is none; then `pair` is
-/// unchanged. O(log n).
+/// Writes the pair with the greatest smaller key to `pair`. It returns false if there is no such
+/// key; then `pair` is unchanged. O(log n).
 #[unsafe(no_mangle)]
 pub extern "C" fn bptree_prev(map: &mut Handle, key: u64, pair: &mut Pair) -> bool
     ghost pairs: { List (ℕ × ℕ) }
@@ -167,8 +167,8 @@ fn prev_in(map: &Map, key: u64) -> Option<(u64, u64)>
     owned(previous_by(&map.pairs, &Number { key }))
 }
 
-/// The pair at an index in the order of the keys, from 0 on, in `pair`. It is false past the end;
-/// then `pair` is unchanged. O(log n).
+/// Writes the pair at an index in the order of the keys, from 0 on, to `pair`. It returns false
+/// past the end; then `pair` is unchanged. O(log n).
 #[unsafe(no_mangle)]
 pub extern "C" fn bptree_at(map: &mut Handle, index: usize, pair: &mut Pair) -> bool
     ghost pairs: { List (ℕ × ℕ) }
@@ -184,10 +184,11 @@ pub extern "C" fn bptree_at(map: &mut Handle, index: usize, pair: &mut Pair) -> 
 fn at_in(map: &Map, index: usize) -> Option<(u64, u64)>
     ensures { result ≡ slice_get map.now index }
 {
-    owned(map.pairs.get_at(index))
+    owned(map.pairs.get_index(index))
 }
 
-/// The number of smaller keys, in `rank`, and whether the key itself is there. O(log n).
+/// Writes the number of smaller keys to `rank`, and returns whether the key itself is present.
+/// O(log n).
 #[unsafe(no_mangle)]
 pub extern "C" fn bptree_rank(map: &mut Handle, key: u64, rank: &mut usize) -> bool
     ghost pairs: { List (ℕ × ℕ) }

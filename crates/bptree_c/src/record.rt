@@ -1,4 +1,4 @@
-//! A pair of a map of byte strings as C has it, without the bytes of its key.
+//! A pair of a map from byte strings as C has it, without the bytes of its key.
 
 /// The length of a key, and its value.
 #[repr(C)]

@@ -6,7 +6,7 @@ ghost use Rattle.bptree_c.specs.Results.{HasCode, HasPairCode};
 use crate::pair::Pair;
 use std::alloc::AllocError;
 
-/// There was no such key or pair.
+/// No such key or pair was present.
 pub(crate) const ABSENT: u32 = 0;
 /// A pair was removed.
 pub(crate) const REMOVED: u32 = 1;
@@ -14,17 +14,17 @@ pub(crate) const REMOVED: u32 = 1;
 pub(crate) const NO_MEMORY: u32 = 2;
 /// A pair with a new key was added.
 pub(crate) const ADDED: u32 = 3;
-/// The value of a key that was there was replaced.
+/// The value of a key that was present was replaced.
 pub(crate) const REPLACED: u32 = 4;
 /// The key of the pair does not fit into the caller's array, and the map is unchanged.
 pub(crate) const NO_ROOM: u32 = 5;
 
-/// The result of a removal that returned a value. If there was one it is written, and else nothing
-/// is.
-pub(crate) fn removed_value(answer: Result<Option<u64>, AllocError>, old: &mut u64) -> u32
-    ensures { HasCode 0 1 (λ it. it) answer result old.old old.new }
+/// The result of a removal that returned a value. The value is written if there was one; otherwise
+/// nothing is written.
+pub(crate) fn removed_value(outcome: Result<Option<u64>, AllocError>, old: &mut u64) -> u32
+    ensures { HasCode 0 1 (λ it. it) outcome result old.old old.new }
 {
-    match answer {
+    match outcome {
         Ok(Some(was)) => {
             *old = was;
             REMOVED
@@ -34,12 +34,12 @@ pub(crate) fn removed_value(answer: Result<Option<u64>, AllocError>, old: &mut u
     }
 }
 
-/// The result of a removal that returned a pair. If there was one it is written, and else nothing
-/// is.
-pub(crate) fn removed_pair(answer: Result<Option<(u64, u64)>, AllocError>, pair: &mut Pair) -> u32
-    ensures { HasPairCode answer result pair.old pair.new }
+/// The result of a removal that returned a pair. The pair is written if there was one; otherwise
+/// nothing is written.
+pub(crate) fn removed_pair(outcome: Result<Option<(u64, u64)>, AllocError>, pair: &mut Pair) -> u32
+    ensures { HasPairCode outcome result pair.old pair.new }
 {
-    match answer {
+    match outcome {
         Ok(Some((key, value))) => {
             *pair = Pair { key, value };
             REMOVED
@@ -49,12 +49,12 @@ pub(crate) fn removed_pair(answer: Result<Option<(u64, u64)>, AllocError>, pair:
     }
 }
 
-/// The result of a value that was stored. The old one is written if there was one, and else nothing
-/// is.
-pub(crate) fn stored_value(answer: Result<Option<u64>, AllocError>, old: &mut u64) -> u32
-    ensures { HasCode 3 4 (λ it. it) answer result old.old old.new }
+/// The result of a value that was stored. The old value is written if there was one; otherwise
+/// nothing is written.
+pub(crate) fn stored_value(outcome: Result<Option<u64>, AllocError>, old: &mut u64) -> u32
+    ensures { HasCode 3 4 (λ it. it) outcome result old.old old.new }
 {
-    match answer {
+    match outcome {
         Ok(Some(was)) => {
             *old = was;
             REPLACED

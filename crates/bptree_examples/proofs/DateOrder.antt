@@ -1,4 +1,4 @@
--- Dates in order, and tests whether two dates share a year, a month or a day.
+-- Dates in order, and tests of whether two dates share a year, a month or a day.
 use Rattle.std.proofs.Common.{◌≡◌, suc, ◌-◌, ◌≤◌, nat_eq, ◌&&◌, Bool, true, List, [], ◌∷◌, ◌++◌, length, get_or, ◌⊎◌, inl, inr, refl, sym, ap, ◌∙◌, arith}
 use Rattle.std.specs.declared.cmp.Ordering.{Ordering}
 use Rattle.std.specs.declared.cmp.Ordering.TheVariants.{Less, Equal, Greater}
@@ -12,7 +12,7 @@ use Rattle.bptree_examples.specs.contracts.examples.date_statistic.DateOrd.TheIm
 use Rattle.bptree_examples.specs.Dates.{same_year, same_month, same_day}
 use Rattle.bptree_keys.proofs.PieceLemmas.{AllByRecursion-weaker}
 
--- a is b or comes before it
+-- Date a is b or comes before b.
 pub record NotAfter (a b : Date) : Type 0 where
   pub year : a.year ≤ b.year
   pub month : a.year ≡ b.year → a.month ≤ b.month
@@ -21,11 +21,12 @@ pub record NotAfter (a b : Date) : Type 0 where
 pub itself : (a : Date) → NotAfter a a
 itself a = record { year = omega arith; month = λ e. omega arith; day = λ e f. omega arith }
 
--- b lies between a and c, whichever of these comes first
+-- Date b lies between a and c, whichever of these comes first.
 abbrev pub Between : Date → Date → Date → Type 0
 Between a b c = (NotAfter a b × NotAfter b c) ⊎ (NotAfter c b × NotAfter b a)
 
--- a test of two dates that holds of all dates between two that it holds of, and that tells dates alike apart in the same way
+-- A test of two dates. If it holds of two dates, it holds of all dates between them, and both have
+-- the same results with every other date.
 pub record IsTest (T : Date → Date → Bool) : Type 0 where
   pub within : (a b c : Date) → Between a b c → T a c ≡ true → T a b ≡ true
   pub agrees : (a b x : Date) → T a b ≡ true → T a x ≡ T b x
@@ -81,7 +82,7 @@ day_test = record {
       rw (eqb-true a.year b.year first.0, eqb-true a.month b.month first.1, eqb-true a.day b.day parts.1) refl;
 }
 
--- the last of a list, or d where it is empty
+-- The last member of a list, or d if the list is empty.
 abbrev pub last_or : {X : Type 0} → X → List X → X
 last_or d [] = d
 last_or d (x ∷ xs) = last_or x xs
@@ -103,7 +104,7 @@ last_or-all P x [] h k = h
 last_or-all P x (y ∷ ys) h k = last_or-all P y ys k.0 k.1
 
 module _ {cmp : Date → Date → Ordering} (ordered : (a b : Date) → cmp a b ≡ Less → NotAfter a b) where
-  -- the first of ascending dates comes after none, and the last before none
+  -- The first of ascending dates is not after any of them, and the last is not before any.
   pub after_first : (x : Date) (xs : List Date) → IsStrictlySortedBy cmp (x ∷ xs) → AllByRecursion (NotAfter x) (x ∷ xs)
   unfolding IsStrictlySortedBy
   after_first x xs h = (itself x, AllByRecursion-weaker (λ y. cmp x y ≡ Less) (NotAfter x) (λ y. ordered x y) xs h.0)
@@ -113,13 +114,13 @@ module _ {cmp : Date → Date → Ordering} (ordered : (a b : Date) → cmp a b 
   upto_last x [] h = (itself x, tt)
   upto_last x (y ∷ ys) h = (last_or-all (NotAfter x) y ys (ordered x y h.0.0) (AllByRecursion-weaker (λ z. cmp x z ≡ Less) (NotAfter x) (λ z. ordered x z) ys h.0.1), upto_last y ys h.1)
 
-  -- what follows comes after the last
+  -- The dates behind a front of ascending dates are after the last date of the front.
   pub beyond_last : (x : Date) (xs back : List Date) → IsStrictlySortedBy cmp (x ∷ (xs ++ back)) → AllByRecursion (NotAfter (last_or x xs)) back
   unfolding IsStrictlySortedBy
   beyond_last x [] back h = AllByRecursion-weaker (λ y. cmp x y ≡ Less) (NotAfter x) (λ y. ordered x y) back h.0
   beyond_last x (y ∷ ys) back h = beyond_last y ys back h.1
 
--- the order of dates
+-- The order of dates.
 abbrev pub date_order : Date → Date → Ordering
 date_order = cmp-value.it
 

@@ -1,4 +1,4 @@
--- The summary of a node's dates, by the summaries of its children.
+-- The summary of a node's dates, computed from the summaries of its children.
 use Rattle.std.proofs.Common.{◌≡◌, ℕ, ◌+◌, ◌-◌, ◌^◌, ◌<◌, min, Bool, true, false, cond, List, [], ◌∷◌, length, take, get_or, inl, inr, refl, sym, ap, ◌∙◌, subst, arith}
 use Rattle.std.specs.declared.cmp.Ordering.{Ordering}
 use Rattle.std.specs.declared.cmp.Ordering.TheVariants.{Less}
@@ -20,18 +20,20 @@ use Rattle.bptree_examples.specs.declared.examples.date_statistic.DateStatisticA
 use Rattle.bptree_examples.specs.Dates.{same_year, same_month, same_day, IsEntry, IsStatistic}
 use Rattle.bptree_examples.proofs.DateOrder.{NotAfter, Between, IsTest, year_test, month_test, day_test, last_or, last_is, last_or-append, last_or-all, after_first, upto_last}
 
--- what a counter adds to a count for a date
+-- The amount that an entry's counter adds to the count for a date.
 abbrev pub share : (Date → Date → Bool) → (Counter → ℕ) → Date → DateStatisticEntry → ℕ
 share T counted date entry = cond (T date entry.date) (counted entry.counter) 0
 
--- the counters hold what the entries at one end of the children add up to, or the greatest number
+-- The counters have the sums of the entries at one end of the children, or the greatest number if a
+-- sum is greater.
 pub record IsSum (date : Date) (end : DateStatisticArgument → DateStatisticEntry) (arguments : List DateStatisticArgument) (counter : Counter) : Type 0 where
   pub year : counter.year ≡ min (sum_by (λ a. share same_year (λ c. c.year) date (end a)) arguments) (2 ^ 64 - 1)
   pub month : counter.month ≡ min (sum_by (λ a. share same_month (λ c. c.month) date (end a)) arguments) (2 ^ 64 - 1)
   pub day : counter.day ≡ min (sum_by (λ a. share same_day (λ c. c.day) date (end a)) arguments) (2 ^ 64 - 1)
 
 module _ (T : Date → Date → Bool) (t : IsTest T) (date e : Date) where
-  -- where e lies between the date and each date of a list, the list's dates like the date are those like e, or none
+  -- If e lies between the date and each date of a list, the dates of the list that are like the
+  -- date are those like e, or there are none of them.
   shared : (dates : List Date) → AllByRecursion (λ x. Between date e x) dates → cond (T date e) (length (filter (T e) dates)) 0 ≡ length (filter (T date) dates)
   shared dates between = by (T date e) refl where
     by : (b : Bool) → T date e ≡ b → cond b (length (filter (T e) dates)) 0 ≡ length (filter (T date) dates)
@@ -50,7 +52,7 @@ module _ (T : Date → Date → Bool) (t : IsTest T) (counted : Counter → ℕ)
       let exact = sum_by-filters (λ a. share T counted date (end a)) (T date) arguments pieces (shares arguments pieces h k) in
       omega (arith, e, exact, length-filter (T date) (flatten pieces), count_by-le-length (T date) (flatten pieces), fits)
 
--- the counters of the whole
+-- The counters of the whole list of dates.
 entry_summed : (end : DateStatisticArgument → DateStatisticEntry) → ((a : DateStatisticArgument) (dates : List Date) → IsStatistic a dates → IsEntry dates (end a)) → (arguments : List DateStatisticArgument) (pieces : List (List Date)) → length (flatten pieces) < 2 ^ 64 → AllZip IsStatistic arguments pieces → (entry : DateStatisticEntry) → AllZip (λ a p. AllByRecursion (λ x. Between entry.date (end a).date x) p) arguments pieces → IsSum entry.date end arguments entry.counter → IsEntry (flatten pieces) entry
 entry_summed end known arguments pieces fits h entry k sum = record {
   year = summed same_year year_test (λ c. c.year) end (λ a p s. (known a p s).year) entry.date arguments pieces fits h k entry.counter.year sum.year;
@@ -59,7 +61,8 @@ entry_summed end known arguments pieces fits h entry k sum = record {
 }
 
 module _ {cmp : Date → Date → Ordering} (ordered : (a b : Date) → cmp a b ≡ Less → NotAfter a b) where
-  -- the first date of a child lies between the first of all and each of the child's, and so does the last
+  -- The first date of a child lies between the first of all dates and each date of the child, and
+  -- so does the last.
   first_here : (date : Date) (a : DateStatisticArgument) (p : List Date) → IsStatistic a p → IsStrictlySortedBy cmp p → AllByRecursion (NotAfter date) p → AllByRecursion (λ x. Between date a.min.date x) p
   first_here date a [] s asc all = tt
   first_here date a (x ∷ xs) s asc all =
@@ -83,7 +86,8 @@ module _ {cmp : Date → Date → Ordering} (ordered : (a b : Date) → cmp a b 
   lasts date (a ∷ rest) [] h asc all = absurd h
   lasts date (a ∷ rest) (p ∷ ps) h asc all = (last_here date a p h.0 (sorted_left cmp p (flatten ps) asc) (AllByRecursion-left (λ x. NotAfter x date) p (flatten ps) all), lasts date rest ps h.1 (sorted_right cmp p (flatten ps) asc) (AllByRecursion-right (λ x. NotAfter x date) p (flatten ps) all))
 
-  -- the first date of all is that of the first child, and the last that of the last
+  -- The first of all dates is the first date of the first child, and the last is the last date of
+  -- the last child.
   first_of_all : (a : DateStatisticArgument) (rest : List DateStatisticArgument) (pieces : List (List Date)) → AllZip IsStatistic (a ∷ rest) pieces → AllNonEmpty pieces → a.min.date ≡ get_or (flatten pieces) 0 a.min.date
   first_of_all a rest [] h n = absurd h
   first_of_all a rest ([] ∷ ps) h n = absurd (omega (arith, n.0))
@@ -116,7 +120,7 @@ module _ {cmp : Date → Date → Ordering} (ordered : (a b : Date) → cmp a b 
         greatest = entry_summed (λ b. b.max) (λ b p s. s.greatest) (a ∷ rest) pieces are.fits h greatest (lasts greatest.date (a ∷ rest) pieces h are.ascending (all_upto (flatten pieces) greatest.date are.ascending last)) high;
       }
 
--- one more child
+-- The counters with one more child.
 pub more_summed : (date : Date) (end : DateStatisticArgument → DateStatisticEntry) (arguments : List DateStatisticArgument) (i : ℕ) (d : DateStatisticArgument) (before after : Counter) → i < length arguments → IsSum date end (take i arguments) before → after.year ≡ min (before.year + share same_year (λ c. c.year) date (end (get_or arguments i d))) (2 ^ 64 - 1) → after.month ≡ min (before.month + share same_month (λ c. c.month) date (end (get_or arguments i d))) (2 ^ 64 - 1) → after.day ≡ min (before.day + share same_day (λ c. c.day) date (end (get_or arguments i d))) (2 ^ 64 - 1) → IsSum date end (take (i + 1) arguments) after
 more_summed date end arguments i d before after l sum year month day = record {
   year = omega (arith, year, sum.year, sum_by_more (λ a. share same_year (λ c. c.year) date (end a)) arguments i d l);
@@ -124,7 +128,7 @@ more_summed date end arguments i d before after l sum year month day = record {
   day = omega (arith, day, sum.day, sum_by_more (λ a. share same_day (λ c. c.day) date (end a)) arguments i d l);
 }
 
--- one more date
+-- The counters with one more date.
 pub more_counted : (date : Date) (dates : List Date) (i : ℕ) (d : Date) (before after : Counter) → i < length dates → length dates < 2 ^ 64 → IsEntry (take i dates) (record { date = date; counter = before }) → after.year ≡ min (before.year + cond (same_year date (get_or dates i d)) 1 0) (2 ^ 64 - 1) → after.month ≡ min (before.month + cond (same_month date (get_or dates i d)) 1 0) (2 ^ 64 - 1) → after.day ≡ min (before.day + cond (same_day date (get_or dates i d)) 1 0) (2 ^ 64 - 1) → IsEntry (take (i + 1) dates) (record { date = date; counter = after })
 more_counted date dates i d before after l fits entry year month day = record {
   year = within same_year before.year after.year entry.year year;

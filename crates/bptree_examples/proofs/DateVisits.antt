@@ -1,4 +1,4 @@
--- How many dates of a year lie in a child, and before it and behind it.
+-- The numbers of dates of a year in a child, before the child and behind it.
 use Rattle.std.proofs.Common.{◌≡◌, ℕ, suc, ◌+◌, ◌-◌, ◌^◌, ◌<◌, ◌≤◌, min, nat_eq, List, [], ◌∷◌, ◌++◌, length, take, drop, get_or, sym, ap, ◌∙◌, subst, false, arith, length-append}
 use Rattle.std.specs.List.{AllByRecursion, AllZip, filter}
 use Rattle.std.specs.List.Sorted.{IsStrictlySortedBy}
@@ -21,7 +21,7 @@ none_later year d dates l all = ap length (filter_none (λ date. nat_eq year dat
 none_earlier : (year : ℕ) (d : Date) (dates : List Date) → d.year < year → AllByRecursion (λ x. NotAfter x d) dates → in_year year dates ≡ 0
 none_earlier year d dates l all = ap length (filter_none (λ date. nat_eq year date.year) dates (AllByRecursion-weaker (λ x. NotAfter x d) (λ date. nat_eq year date.year ≡ false) (λ x h. ne_eqb year x.year (λ e. omega (arith, l, h.year, e))) dates all))
 
--- a child's dates, and those behind them
+-- A child's dates, and the dates behind them.
 record IsChild (a : DateStatisticArgument) (dates back : List Date) : Type 0 where
   first_year : AllByRecursion (NotAfter a.min.date) (dates ++ back)
   last_year : AllByRecursion (λ x. NotAfter x a.max.date) dates
@@ -69,26 +69,26 @@ module _ (year start counted : ℕ) (pieces : List (List Date)) (are : ArePieces
   whole : in_year year (flatten pieces) ≡ in_year year (flatten (take i pieces)) + in_year year (here ++ back)
   whole = ap (in_year year) (flatten-cut pieces i inside) ∙ in_year-append year (flatten (take i pieces)) (here ++ back)
 
-  -- the year is over before the child
+  -- The year ends before the child.
   pub over : year < a.min.date.year → counted ≡ min (start + in_year year (flatten pieces)) (2 ^ 64 - 1)
   over h = omega (arith, so_far, whole, none_later year a.min.date (here ++ back) h its.first_year)
 
-  -- it is behind the child
+  -- The year begins behind the child.
   pub not_yet : (a.max.date.year ≡ year → ⊥) → a.max.date.year ≤ year → counted ≡ min (start + in_year year (flatten (take (i + 1) pieces))) (2 ^ 64 - 1)
   not_yet other h = let below : a.max.date.year < year = omega (arith, other, h) in omega (arith, so_far, more, none_earlier year a.max.date here below its.last_year)
 
-  -- the child ends in it
+  -- The child ends in the year.
   pub ends_in : a.max.date.year ≡ year → min (counted + a.max.counter.year) (2 ^ 64 - 1) ≡ min (start + in_year year (flatten (take (i + 1) pieces))) (2 ^ 64 - 1)
   ends_in h = let here_is : a.max.counter.year ≡ in_year year here = subst (λ y. a.max.counter.year ≡ in_year y here) h summary.greatest.year in omega (arith, so_far, more, here_is)
 
-  -- it is over in the child
+  -- The year ends in the child.
   pub within : year < a.max.date.year → min (counted + in_year year here) (2 ^ 64 - 1) ≡ min (start + in_year year (flatten pieces)) (2 ^ 64 - 1)
   within h = omega (arith, so_far, whole, in_year-append year here back, none_later year a.max.date back h its.behind)
 
-  -- and began with the child
+  -- The year is that of the child's first date, and ends in the child.
   pub begins_in : year < a.max.date.year → a.min.date.year ≡ year → min (counted + a.min.counter.year) (2 ^ 64 - 1) ≡ min (start + in_year year (flatten pieces)) (2 ^ 64 - 1)
   begins_in h e = let here_is : a.min.counter.year ≡ in_year year here = subst (λ y. a.min.counter.year ≡ in_year y here) e summary.least.year in omega (arith, within h, here_is)
 
-  -- no child ends before it begins
+  -- No child ends before it begins.
   pub never_turned : (a.max.date.year ≡ year → ⊥) → a.max.date.year ≤ year → a.min.date.year ≡ year → ⊥
   never_turned other h e = omega (arith, other, h, e, its.turned)

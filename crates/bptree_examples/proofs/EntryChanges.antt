@@ -1,4 +1,4 @@
--- What is left of changes of a list of pairs that are taken back.
+-- A list of pairs after changes that are undone.
 use Rattle.std.proofs.Common.{◌≡◌, Bool, true, false, cond, ◌||◌, List, [], ◌∷◌, Option, Some, Result, Ok, Err, ◌⊎◌, inl, inr, refl, sym, ap, ◌∙◌}
 use Rattle.std.specs.Prelude.{IfOk, OnErr}
 use Rattle.std.specs.Option.{is_some}
@@ -7,13 +7,13 @@ use Rattle.std.specs.Ordering.{is_eq, nat_cmp, ordering_then}
 use Rattle.std.specs.Cmp.{IsTotalOrder, nat_cmp_total}
 use Rattle.std.proofs.lemmas.Cmp.{on_total, then_total, tied_itself}
 use Rattle.bptree_keys.specs.Contents.{IsAscending, pairs_below, pairs_above, has, value, put, del}
-use Rattle.bptree_keys.specs.Places.{IsHit}
+use Rattle.bptree_keys.specs.Indexes.{IsHit}
 use Rattle.bptree_keys.proofs.Ascending.{gap_if_absent}
 use Rattle.bptree_keys.proofs.Parted.{put_gap, del_hit}
 use Rattle.bptree_examples.specs.declared.uses.secondary_index.Entry.{Entry}
 
 module _ {K V : Type 0} (cmp : K → K → Ordering) (k : K) where
-  -- a key is there where it has a value
+  -- A key is present if and only if it has a value.
   pub has_by_value : (l : List (K × V)) → has cmp l k ≡ is_some (value cmp l k)
   has_by_value [] = refl
   has_by_value (p ∷ l) = by (is_eq (cmp p.0 k)) (has_by_value l) where
@@ -22,7 +22,7 @@ module _ {K V : Type 0} (cmp : K → K → Ordering) (k : K) where
     by false e = e
 
   module _ (total : IsTotalOrder cmp) (l : List (K × V)) (ascending : IsAscending cmp l) (absent : has cmp l k ≡ false) (v : V) where
-    -- a new pair that is taken back leaves what was there
+    -- Inserting a new pair and removing it again leaves the list.
     taken_back : del cmp (put cmp l k v) k ≡ l
     taken_back =
         let gap = gap_if_absent cmp total l k ascending absent in
@@ -30,10 +30,10 @@ module _ {K V : Type 0} (cmp : K → K → Ordering) (k : K) where
         del_hit cmp (put cmp l k v) (pairs_below cmp l k) (k, v) (pairs_above cmp l k) k hit ∙ sym gap.parts
 
     pub taken_back_or_kept : {E : Type 0} (r : Result (Option V) E) (added now : List (K × V)) → added ≡ put cmp l k v → IfOk r (λ old. (old ≡ value cmp added k) × (now ≡ del cmp added k)) → OnErr r (now ≡ added) → (now ≡ l) ⊎ (now ≡ put cmp l k v)
-    taken_back_or_kept (Ok old) added now e removed refused = inl (removed.1 ∙ (ap (λ t. del cmp t k) e ∙ taken_back))
-    taken_back_or_kept (Err error) added now e removed refused = inr (refused ∙ e)
+    taken_back_or_kept (Ok old) added now e removed unchanged = inl (removed.1 ∙ (ap (λ t. del cmp t k) e ∙ taken_back))
+    taken_back_or_kept (Err error) added now e removed unchanged = inr (unchanged ∙ e)
 
--- the order of entries
+-- The order of entries.
 abbrev pub entry_order : Entry → Entry → Ordering
 entry_order x y = ordering_then (nat_cmp x.value y.value) (nat_cmp x.row y.row)
 

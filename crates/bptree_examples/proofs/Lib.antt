@@ -4,5 +4,5 @@ pub mod DateVisits
 pub mod EntryChanges
 pub mod GroupItems
 pub mod SaleSums
-pub mod Told
-pub mod YearTold
+pub mod Reported
+pub mod YearReported

@@ -1,9 +1,9 @@
--- What a visitor that counts levels may answer.
+-- The results that are allowed for a visitor that counts levels.
 use Rattle.std.specs.Prelude.{ℕ, ◌<◌, Some, None}
-use Rattle.bptree_arguments.specs.Visits.{VisitAnswer, answered, invalid_child}
+use Rattle.bptree_arguments.specs.Visits.{VisitResult, returned, invalid_child}
 
--- some number from 1 on
-abbrev pub IsDepth : VisitAnswer ℕ → Type 0
-IsDepth (answered (Some depth)) = 0 < depth
-IsDepth (answered None) = ⊥
+-- The result is a number from 1 on.
+abbrev pub IsDepth : VisitResult ℕ → Type 0
+IsDepth (returned (Some depth)) = 0 < depth
+IsDepth (returned None) = ⊥
 IsDepth invalid_child = ⊥

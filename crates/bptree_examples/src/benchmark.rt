@@ -1,7 +1,7 @@
 //! Times of the calls of a tree. A line for each call and round has the number of pairs, the tree's
-//! kind, the call, the time of one in hundredths of a nanosecond, and a sum of what was answered.
-//! Steps of a nanosecond or two are timed in functions of their own, which are not inlined, so that
-//! less hangs on where their loops lie.
+//! kind, the call, the time of one call in hundredths of a nanosecond, and a sum of the results.
+//! Steps of a nanosecond or two are timed in functions that are not inlined, so that the times
+//! depend less on the addresses of their loops.
 
 mod batches;
 mod counted;
@@ -29,7 +29,7 @@ use timing::Report;
 
 type PlainStore = NodeStoreVec<u64, u64>;
 
-// All calls on trees without summaries.
+// Times all calls on trees without summaries.
 fn take_plain<S: CloneStore<K = u64, V = u64>>(report: Report<'_>, numbers: Numbers<'_>) -> bool
 where
     S::Argument: CloneArgument<u64>,
@@ -39,7 +39,7 @@ where
         && loaded::take::<S>(report, numbers)
 }
 
-// All calls on trees with counts.
+// Times all calls on trees with counts.
 fn take_counted<S: CloneStore<K = u64, V = u64>>(report: Report<'_>, numbers: Numbers<'_>) -> bool
 where
     S::Argument: SearchArgument<u64, Query = usize> + RankArgument<u64, Rank = usize>,
@@ -52,8 +52,8 @@ where
 
 type Headeds = NodeStoreVec<Headed<String>, u64>;
 
-// Strings whose first bytes differ, and strings whose first ten bytes are alike, with and without
-// heads.
+// Times strings whose first bytes differ, and strings whose first ten bytes are equal, with and
+// without heads.
 fn take_strings(plain: Report<'_>, kit: Report<'_>, numbers: Numbers<'_>) -> bool {
     let text = Form {
         front: "",
@@ -76,7 +76,7 @@ fn take_strings(plain: Report<'_>, kit: Report<'_>, numbers: Numbers<'_>) -> boo
         && strings::take::<Headed<String>, BPlusTree<Headeds>>(head, alike, numbers)
 }
 
-// All calls on each of the trees, on maps and on sets.
+// Times all calls on each of the trees, on maps and on sets.
 fn round(rt: &HostRuntime, numbers: Numbers<'_>) -> bool {
     let groups = Report { rt, kind: "groups" };
     let plain = Report { rt, kind: "plain" };
@@ -103,25 +103,25 @@ fn all_rounds(rt: &HostRuntime, numbers: Numbers<'_>, rounds: usize) -> bool {
     true
 }
 
-// Rounds over keys in two orders, and over the places below their number in random order.
+// Times rounds over keys in two orders, and over the indices below their number in random order.
 fn rounds_over(
     rt: &HostRuntime,
     keys: &[u64],
     sorted: &[u64],
-    places: &[u64],
+    indexes: &[u64],
     rounds: usize,
 ) -> bool {
     let Ok(others) = shuffled(rt.alloc(), keys) else {
         return false;
     };
-    let Ok(again) = shuffled(rt.alloc(), places) else {
+    let Ok(again) = shuffled(rt.alloc(), indexes) else {
         return false;
     };
     let numbers = Numbers {
         keys,
         others: &others,
         sorted,
-        places,
+        indexes,
         again: &again,
     };
     all_rounds(rt, numbers, rounds)
@@ -132,11 +132,11 @@ fn rounds_of(rt: &HostRuntime, keys: &[u64], rounds: usize) -> bool {
         return false;
     };
     sorted.sort_unstable();
-    let Ok(mut places) = numbers_below(rt.alloc(), keys.len()) else {
+    let Ok(mut indexes) = numbers_below(rt.alloc(), keys.len()) else {
         return false;
     };
-    shuffle(&mut places);
-    rounds_over(rt, keys, &sorted, &places, rounds)
+    shuffle(&mut indexes);
+    rounds_over(rt, keys, &sorted, &indexes, rounds)
 }
 
 fn rounds(rt: &HostRuntime, pairs: usize, rounds: usize) -> bool {
@@ -157,7 +157,7 @@ fn put_numbers<T: Mapped<u64>>(tree: &mut T, many: usize) -> bool {
     true
 }
 
-// Fills a tree with so many pairs in random order, and does nothing else.
+// Fills a tree with this number of pairs in random order, and does nothing else.
 fn fill<T: Mapped<u64>>(rt: &HostRuntime, many: usize) -> bool {
     let Ok(mut tree) = T::made(rt.alloc()) else {
         return false;
@@ -169,9 +169,8 @@ fn fill<T: Mapped<u64>>(rt: &HostRuntime, many: usize) -> bool {
     true
 }
 
-/// Takes the times of so many pairs in so many rounds, as a line has them. Returns whether that
-/// went well. Where a line has a number alone, a tree without summaries is filled with as many
-/// pairs.
+/// Times the number of pairs and the number of rounds that a line has. If the line has a single
+/// number, this fills a tree without summaries with as many pairs. Returns whether no call failed.
 pub fn run(rt: &HostRuntime, line: &str) -> bool {
     let Some((pairs, times)) = line.split_once(' ') else {
         return match line.parse::<usize>() {

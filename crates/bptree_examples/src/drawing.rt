@@ -10,7 +10,7 @@ use sweep_bptree::{BPlusTreeMap, Count};
 
 type Map = BPlusTreeMap<u64, u64, Count>;
 
-/// Prints the text of the tree of a map. Returns whether that went well.
+/// Prints the text of the tree of a map. Returns whether this succeeded.
 pub fn print(rt: &HostRuntime, map: &Map) -> bool {
     match tree::text_of(rt.alloc(), map.tree()) {
         Ok(text) => println!(rt; "{text}").is_ok(),
@@ -37,7 +37,7 @@ fn remove_one(map: &mut Map) -> Result<(), AllocError> {
     Ok(())
 }
 
-// Draws the tree of a map that lines have changed.
+// Draws the tree of a map after lines have changed it.
 fn drawn(alloc: Global, map: &mut Map) -> Result<String, AllocError> {
     put_pairs(alloc, map)?;
     remove_one(map)?;
@@ -49,9 +49,9 @@ fn one_drawn(alloc: Global) -> Result<String, AllocError> {
     drawn(alloc, &mut map)
 }
 
-/// Prints the text of a tree that lines make: of two leaves, into which 65 pairs are put, and of
-/// which one is removed. Lines that ask for no change, or for nothing, change nothing. Returns
-/// whether that went well.
+/// Prints the text of a tree that lines make: 65 pairs are put, which gives two leaves, and one
+/// pair is removed. Lines that are no request, or that change nothing, are ignored. Returns whether
+/// this succeeded.
 pub fn print_one(rt: &HostRuntime) -> bool {
     match one_drawn(rt.alloc()) {
         Ok(text) => println!(rt; "{text}").is_ok(),

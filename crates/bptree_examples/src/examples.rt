@@ -1,5 +1,5 @@
-//! The examples, and what each of them answers, line by line. Those that README.md and
-//! docs/COOKBOOK.md show are modules of the crate itself.
+//! The examples, and the results that each of them prints, line by line. The examples that
+//! README.md and docs/COOKBOOK.md show are modules of the crate itself.
 
 mod argument;
 mod calendar;
@@ -15,9 +15,9 @@ use std::io;
 fn print<T: Debug + Drop>(
     rt: &HostRuntime,
     what: &str,
-    answer: Result<T, AllocError>,
+    outcome: Result<T, AllocError>,
 ) -> io::Result<()> {
-    match answer {
+    match outcome {
         Ok(numbers) => println!(rt; "{what}: {numbers:?}"),
         Err(_) => println!(rt; "{what}: out of memory"),
     }
@@ -46,7 +46,7 @@ fn print_uses(rt: &HostRuntime) -> io::Result<()> {
     print(rt, "segments beside", uses::sweep_line::run(alloc))?;
     print(rt, "items", uses::grouped_index::run(alloc))?;
     print(rt, "rows by value", uses::secondary_index::run(alloc))?;
-    print(rt, "takings", uses::takings::run(alloc))
+    print(rt, "takings", uses::revenue::run(alloc))
 }
 
 /// Prints a line for each example.

@@ -1,9 +1,9 @@
-//! Maps that are filled, whatever their keys, values and summaries.
+//! Makes and changes maps of any keys, values and summaries.
 
 use std::alloc::{AllocError, Global};
 use sweep_bptree::{Argument, BPlusTreeMap, Key};
 
-/// A map of pairs, which are put in one after another.
+/// Returns a map of pairs, which are inserted one after another.
 pub fn filled<K: Key + Copy, V: Copy, A: Argument<K>>(
     alloc: Global,
     pairs: &[(K, V)],

@@ -4,9 +4,9 @@
 //! - `benchmark`: the times of the calls of a tree;
 //! - `drawing`: a tree as text for Graphviz.
 //!
-//! Without standard input the answers of the examples are printed, and a drawn tree. A line with a
-//! number of pairs and a number of rounds takes times. A line of the program `bptree` changes a
-//! map, whose tree is drawn at the end. Lines behind it that ask for nothing are passed over.
+//! Without standard input the program prints the results of the examples, and a drawn tree. A line
+//! with a number of pairs and a number of rounds runs the benchmark. A line of the program `bptree`
+//! changes a map, whose tree is drawn at the end. Lines after it that are no request are skipped.
 #![tactic(auto)]
 
 mod benchmark;
@@ -22,18 +22,18 @@ use sweep_bptree::{BPlusTreeMap, Count};
 
 type Map = BPlusTreeMap<u64, u64, Count>;
 
-// What the lines of standard input were for.
+// The use of the lines of standard input.
 #[derive(Clone, Copy)]
 enum Lines {
-    // There was none.
+    // There was no line.
     None,
     Timed,
     Drawn,
-    // One was for nothing, or could not be read.
+    // A line had no use, or could not be read.
     Wrong,
 }
 
-// Carries out a line. Behind one that a map is asked by, each that asks for nothing is passed over.
+// Carries out a line. After a request to the map, lines that are no request are skipped.
 fn take_line(
     rt: &HostRuntime,
     map: &mut Map,
@@ -64,12 +64,12 @@ fn take_lines(rt: &HostRuntime, map: &mut Map) -> Result<Lines, AllocError> {
     Ok(lines)
 }
 
-// Prints the answers of the examples and a drawn tree. Returns whether that went well.
+// Prints the results of the examples and a drawn tree. Returns whether this succeeded.
 fn print_all(rt: &HostRuntime) -> bool {
     examples::print_all(rt).is_ok() && drawing::print_one(rt)
 }
 
-// Prints what comes after the lines. Returns whether that went well.
+// Prints what follows the lines. Returns whether this succeeded.
 fn print_after(rt: &HostRuntime, map: &Map, lines: Lines) -> bool {
     match lines {
         Lines::None => print_all(rt),
@@ -79,7 +79,7 @@ fn print_after(rt: &HostRuntime, map: &Map, lines: Lines) -> bool {
     }
 }
 
-// Carries out the lines of standard input. Returns whether all went well.
+// Carries out the lines of standard input. Returns whether all of them succeeded.
 fn run(rt: &HostRuntime) -> bool {
     let Ok(mut map) = Map::new(rt.alloc()) else {
         return false;

@@ -5,25 +5,25 @@ use sweep_bptree::{BPlusTreeMap, Count};
 
 type Race = BPlusTreeMap<u64, u64, Count>;
 
-type Answers = (Option<u64>, Option<usize>, Vec<u64>, Option<u64>);
+type RaceResults = (Option<u64>, Option<usize>, Vec<u64>, Option<u64>);
 
-/// The fastest runner, the place of a time, who took from 570 to 620 seconds, and who comes first
-/// on the second page of two.
-pub fn run(alloc: Global) -> Result<Answers, AllocError> {
+/// Returns the fastest runner, the index of a time, the runners who took from 570 to 620 seconds,
+/// and the first runner on the second page of two.
+pub fn run(alloc: Global) -> Result<RaceResults, AllocError> {
     let mut race = Race::new(alloc)?;
     for (time, runner) in [(583, 7), (561, 3), (610, 5)] {
         race.insert(time, runner).or(Err(AllocError))?;
     }
-    answers(alloc, &race)
+    outcomes(alloc, &race)
 }
 
-fn answers(alloc: Global, race: &Race) -> Result<Answers, AllocError> {
-    let fastest = race.get_at(0).map(|(_, runner)| *runner);
-    let place = race.place_of(&583);
+fn outcomes(alloc: Global, race: &Race) -> Result<RaceResults, AllocError> {
+    let fastest = race.get_index(0).map(|(_, runner)| *runner);
+    let index = race.get_index_of(&583);
     let second_page = race.page(1, 2)?.next().map(|(_, runner)| *runner);
     let mut between = Vec::new(alloc);
     for (_, runner) in race.range_within(570..620) {
         between.push(*runner)?;
     }
-    Ok((fastest, place, between, second_page))
+    Ok((fastest, index, between, second_page))
 }

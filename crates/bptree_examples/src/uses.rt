@@ -2,6 +2,6 @@
 
 pub mod grouped_index;
 pub mod leaderboard;
+pub mod revenue;
 pub mod secondary_index;
 pub mod sweep_line;
-pub mod takings;

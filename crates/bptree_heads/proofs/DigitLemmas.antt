@@ -3,7 +3,7 @@ use Rattle.std.specs.Prelude.{◌≡◌, ℕ, ◌+◌, ◌*◌, ◌<◌, List, [
 use Rattle.std.proofs.Common.{refl, arith}
 use Rattle.bptree_heads.specs.Heads.{head_in, AreBytes}
 
--- Lemma: the head of a string is the sum of its first eight bytes, each times its worth.
+-- the head of a string is the sum of its first eight bytes, each times its weight
 pub eight_digits : (bytes : List ℕ) → head_in 8 bytes ≡ get_or bytes 0 0 * 72057594037927936 + get_or bytes 1 0 * 281474976710656 + get_or bytes 2 0 * 1099511627776 + get_or bytes 3 0 * 4294967296 + (get_or bytes 4 0 * 16777216 + get_or bytes 5 0 * 65536 + get_or bytes 6 0 * 256 + get_or bytes 7 0)
 unfolding head_in
 eight_digits [] = refl
@@ -16,7 +16,7 @@ eight_digits (a ∷ b ∷ c ∷ d ∷ e ∷ f ∷ []) = omega (arith)
 eight_digits (a ∷ b ∷ c ∷ d ∷ e ∷ f ∷ g ∷ []) = omega (arith)
 eight_digits (a ∷ b ∷ c ∷ d ∷ e ∷ f ∷ g ∷ h ∷ rest) = omega (arith)
 
--- Lemma: the first eight bytes of a string are below 256.
+-- the first eight bytes of a string are below 256
 pub eight_bytes : (bytes : List ℕ) → get_or bytes 0 0 < 256 → get_or bytes 1 0 < 256 → get_or bytes 2 0 < 256 → get_or bytes 3 0 < 256 → get_or bytes 4 0 < 256 → get_or bytes 5 0 < 256 → get_or bytes 6 0 < 256 → get_or bytes 7 0 < 256 → AreBytes 8 bytes
 unfolding AreBytes
 eight_bytes [] i j k l m n o p = tt

@@ -9,7 +9,8 @@ use Rattle.std.proofs.lemmas.Cmp.{ranked, by_ranked, nat_list_cmp_total}
 use Rattle.std.proofs.lemmas.Nat.{mul-le}
 use Rattle.std.proofs.Math.Nat.{one-le-pow}
 
--- the first `n` bytes as the digits of a number, the first one the greatest; zeros follow a string that has ended
+-- the first `n` bytes as the digits of a number, the first one the greatest; a shorter string
+-- counts as if zeros followed it
 unfoldable pub head_in : ℕ → List ℕ → ℕ
 head_in zero bytes = 0
 head_in (suc n) [] = 0
@@ -21,7 +22,7 @@ AreBytes zero bytes = ⊤
 AreBytes (suc n) [] = ⊤
 AreBytes (suc n) (byte ∷ bytes) = (byte < 256) × AreBytes n bytes
 
--- whether a number is the first eight bytes of a string
+-- a number is the first eight bytes of a string
 unfoldable pub IsHeadOf : List ℕ → ℕ → Type 0
 IsHeadOf bytes head = AreBytes 8 bytes × (head ≡ head_in 8 bytes)
 
@@ -34,7 +35,7 @@ head_bound (suc n) (byte ∷ bytes) are =
     let digit : (byte + 1) * 256 ^ n ≤ 256 * 256 ^ n = mul-le (byte + 1) (256 ^ n) 256 (256 ^ n) (omega (arith, are.0)) (omega (arith)) in
     grind (arith, rest, digit)
 
--- strings of which the one's head is smaller are in that order
+-- if the head of one string is below that of another, the string is below the other
 pub heads_in_order : (n : ℕ) (xs ys : List ℕ) → AreBytes n xs → AreBytes n ys → head_in n xs < head_in n ys → slice_cmp nat_cmp xs ys ≡ Less
 unfolding head_in AreBytes
 heads_in_order zero xs ys first second less = absurd (grind (arith, less))
@@ -57,15 +58,16 @@ heads_in_order (suc n) (x ∷ xs) (y ∷ ys) first second less =
         let digit : (y + 1) * 256 ^ n ≤ x * 256 ^ n = mul-le (y + 1) (256 ^ n) x (256 ^ n) (omega (arith, greater)) (omega (arith)) in
         grind (arith, rest, digit, less)
 
--- where the heads of two strings differ, the strings are in the order of the heads
+-- if the head of one string is below that of another, the string is below the other, by the
+-- relation `IsHeadOf`
 pub heads_decide : (xs ys : List ℕ) (h k : ℕ) → IsHeadOf xs h → IsHeadOf ys k → h < k → slice_cmp nat_cmp xs ys ≡ Less
 unfolding IsHeadOf
 heads_decide xs ys h k first second less = heads_in_order 8 xs ys first.0 second.0 (rw (sym first.1, sym second.1) less)
 
--- and the other way round
+-- if the head of one string is above that of another, the string is above the other
 pub heads_decide_back : (xs ys : List ℕ) (h k : ℕ) → IsHeadOf xs h → IsHeadOf ys k → k < h → slice_cmp nat_cmp xs ys ≡ Greater
 heads_decide_back xs ys h k first second more = nat_list_cmp_total.antisymm xs ys ∙ ap ordering_reverse (heads_decide ys xs k h second first more)
 
--- what decides between the first parts of two pairs decides between the pairs
+-- an order that the first parts of two pairs determine is that of the pairs
 pub head_of_first : {o : Ordering} (p : Ordering) → o ≡ Less → ordering_then o p ≡ Less
 head_of_first {o} p first = rw first refl

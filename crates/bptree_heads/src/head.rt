@@ -8,7 +8,7 @@ ghost use Rattle.bptree_heads.specs.Heads.{IsHeadOf, heads_decide, head_of_first
 use bptree_keys::key::Key;
 use std::cmp::Ordering;
 
-/// A key with a head: a number that decides a comparison where the numbers of both keys differ.
+/// A key with a head: a number that determines the order of two keys if their heads differ.
 pub trait HasHead: Key {
     /// Whether a number is the head of a key.
     ghost is_head: { Self → ℕ → Type 0 };
@@ -43,8 +43,8 @@ impl<A: HasHead, B: Key> HasHead for (A, B) {
     ghost decides = { λ x y h k first second less. head_of_first (B.cmp x.1 y.1) (A.decides x.0 y.0 h k first second less) };
 }
 
-/// The first eight bytes as a number, the first byte the greatest digit. A shorter string counts as
-/// if zeros followed it.
+/// The first eight bytes as a number, the first byte as the greatest digit. A shorter string counts
+/// as if zeros followed it.
 ///
 /// O(1). It allocates nothing and cannot fail.
 pub fn head_of(bytes: &[u8]) -> u64
@@ -61,8 +61,7 @@ pub fn head_of(bytes: &[u8]) -> u64
         + later
 }
 
-/// Compares two strings of bytes with their heads. The bytes are read only where both heads are
-/// equal.
+/// Compares two strings of bytes with their heads. It reads the bytes only if both heads are equal.
 ///
 /// O(1) if the heads differ, and else O(n) for strings of n bytes. It allocates nothing and cannot
 /// fail.

@@ -72,8 +72,7 @@ fn are_in_order(alloc: Global) -> bool {
     well
 }
 
-// A pair has the head of its first part, and the second part decides where the first ones are
-// equal.
+// A pair has the head of its first part, and the second part decides if the first parts are equal.
 fn pairs_have_heads(alloc: Global) -> Result<bool, AllocError> {
     let one = Headed::new((String::from_str(alloc, "abcdefghi")?, 2u64));
     let other = Headed::new((String::from_str(alloc, "abcdefghi")?, 10u64));

@@ -8,8 +8,8 @@ use std::cmp::Ordering;
 use std::fmt::{self, Debug, Formatter, Write};
 use std::marker::Model;
 
-/// A key together with its head. It is in the same order as the key, and a comparison reads the key
-/// itself only where both heads are equal.
+/// A key together with its head. Its order is that of the key. A comparison reads the key itself only
+/// if both heads are equal.
 #[derive(Drop)]
 pub struct Headed<K: HasHead> {
     head: u64,
@@ -108,6 +108,7 @@ impl<K: HasHead> Ord for Headed<K> {
 
     ghost matches_eq = { K.matches_eq };
 
+    #[inline(always)]
     fn cmp(&self, other: &Self) -> Ordering {
         if self.head < other.head {
             Ordering::Less

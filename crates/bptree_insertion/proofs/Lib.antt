@@ -1,4 +1,4 @@
-pub mod AtHand
+pub mod Cached
 pub mod Placed
 pub mod SplitLeaf
 pub mod Upserted

@@ -1,4 +1,4 @@
--- A full leaf that was split in its store is again what it was, where its halves are not summed up.
+-- A full leaf that was split in its store is again what it was, if a summary of a half fails.
 use Rattle.std.proofs.Common.{◌≡◌, ℕ, ◌≤◌, List, ◌++◌, length, inl, inr, sym, ap, ◌∙◌, arith, Some}
 use Rattle.std.specs.List.{insert}
 use Rattle.std.proofs.lemmas.Bool.{cases_eq}
@@ -6,7 +6,7 @@ use Rattle.bptree_nodes.specs.Inner.{Inner}
 use Rattle.bptree_nodes.specs.Leaf.{Leaf}
 use Rattle.bptree_nodes.specs.Slot.{Slots, Free, Held, Present, UpdatesLeaf}
 use Rattle.bptree_keys.specs.declared.node_id.LeafNodeId.{LeafNodeId}
-use Rattle.bptree_shape.specs.Shape.{leaf_pairs}
+use Rattle.bptree_invariant.specs.Shape.{leaf_pairs}
 
 module _ {K V A : Type 0} {old s1 s2 s3 new : Slots (Inner K A) (Leaf K V)} (id fresh : LeafNodeId) {node back : Leaf K V} (free : old.leaf fresh.0 ≡ Free) (reserved : UpdatesLeaf old s1 fresh.0 Held) (here : s1.leaf id.0 ≡ Present node)
     (taken : UpdatesLeaf s1 s2 id.0 Held) (put : UpdatesLeaf s2 s3 id.0 (Present back)) (released : UpdatesLeaf s3 new fresh.0 Free) where
@@ -29,7 +29,7 @@ module _ {K V A : Type 0} {old s1 s2 s3 new : Slots (Inner K A) (Leaf K V)} (id 
             ]
           ]
 
-  -- its halves were joined, and the pair was taken out
+  -- the halves are joined, and the pair is removed
   module _ (slot : ℕ) (pair out : K × V) (left half : Leaf K V) (small : slot ≤ 64) (full : length (leaf_pairs (old.leaf id.0)) ≡ 64) {kept moved : List (K × V)} (left_is : left ≡ record node { pairs = kept; next = Some fresh }) (half_is : half ≡ record { pairs = moved; prev = Some id; next = node.next })
       (parts : left.pairs ++ half.pairs ≡ insert node.pairs slot pair) (undoes : (w : List (K × V)) (item : K × V) → left.pairs ++ half.pairs ≡ insert w slot item → slot ≤ length w → (back.pairs ≡ w) × (out ≡ item)) (prev : back.prev ≡ left.prev) (next : back.next ≡ half.next) where
     undone : (back.pairs ≡ node.pairs) × (out ≡ pair)

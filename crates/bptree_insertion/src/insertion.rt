@@ -3,28 +3,28 @@ ghost use Rattle.std.specs.Prelude.{◌≡◌, ◌≤◌, ◌<◌, ◌≢◌, If
 ghost use Rattle.std.specs.List.Sorted.{IsSearchInRange};
 ghost use Rattle.bptree_keys.specs.Contents.{has, put};
 ghost use Rattle.bptree_keys.specs.declared.node_id.NodeId.TheVariants as kind;
-ghost use Rattle.bptree_nodes.specs.LeafResults.{HasEqualAt, IsPlaceInLeaf};
+ghost use Rattle.bptree_nodes.specs.LeafResults.{HasEqualAt, IsIndexInLeaf};
 ghost use Rattle.bptree_nodes.specs.Slot.{IsPresent};
-ghost use Rattle.bptree_ascent.specs.LeafChange.{SumsUpLeaf, HasSlotAt, AreHalves, SumsUpLeafAt};
-ghost use Rattle.bptree_insertion.specs.Puts.{PutsPair, IsAtHand, IsDue, IsDueIn, risen, AddsPair, Divides, HasRoomFor, HasValueAt, IsDueBelow, LeftSumsUp, PlacesDue, PlacesDueUpTo, Rejoins, RightSumsUp, SeparatesHalves, SetsValue, SumsUpDue, UndoesAdd};
-ghost use Rattle.bptree_shape.specs.NodeTree.{IsUntouched, IsWhole};
-ghost use Rattle.bptree_shape.specs.Shape.{leaf_pairs};
+ghost use Rattle.bptree_propagation.specs.LeafChange.{SumsUpLeaf, HasSlotAt, AreHalves, SumsUpLeafAt};
+ghost use Rattle.bptree_insertion.specs.Puts.{PutsPair, IsCached, BelongsAt, IsDueIn, root_after, AddsPair, Divides, HasRoomFor, HasValueAt, IsDueBelow, LeftSumsUp, IndexesOfAbsent, IndexesOfAbsentUpTo, Rejoins, RightSumsUp, SeparatesHalves, SetsValue, SumsUpDue, UndoesAdd};
+ghost use Rattle.bptree_invariant.specs.NodeTree.{IsUntouched, IsWhole};
+ghost use Rattle.bptree_invariant.specs.Shape.{leaf_pairs};
 
 use bptree_arguments::argument::Argument;
-use bptree_ascent::ascent::{ascend, ascend_split, relink_next};
-use bptree_ascent::node_changes::Division;
+use bptree_invariant::descent::find_path;
+use bptree_invariant::nodes::Nodes;
 use bptree_keys::compares::{Compares, SearchHint};
 use bptree_keys::entry_ref::VisitStack;
 use bptree_keys::key::Key;
 use bptree_keys::node_id::{InnerNodeId, LeafNodeId, NodeId, Position};
 use bptree_nodes::leaf_node::LeafNode;
-use bptree_shape::descent::find_path;
-use bptree_shape::nodes::Nodes;
+use bptree_propagation::ascent::{ascend, ascend_split, relink_next};
+use bptree_propagation::node_changes::NodeSplit;
 use bptree_stores::node_stores::NodeStore;
 use std::alloc::AllocError;
 
-// A clone of the key that will be the first of the right half, where a full leaf is split with a
-// new key at the slot.
+// Returns a clone of the key that will be the first of the right half, if a full leaf is split with
+// a new key at the slot.
 fn separator<S: NodeStore>(
     store: &S,
     id: LeafNodeId,
@@ -42,7 +42,8 @@ fn separator<S: NodeStore>(
     store.get_leaf(id).data_at(32).0.clone()
 }
 
-// Puts a pair into a leaf that has room. It returns a summary of the leaf's keys.
+// Puts a pair into a leaf that has room, and returns a summary of the leaf's keys. If the summary
+// fails, it returns the pair, and the store is unchanged.
 fn add_at<S: NodeStore>(
     store: &mut S,
     id: LeafNodeId,
@@ -54,8 +55,8 @@ fn add_at<S: NodeStore>(
     requires room { length (leaf_pairs ((S.slots store.old).leaf id.0)) < 64 }
     ensures adds { AddsPair (S.slots store.old) (S.slots store.new) id slot (key, value) result }
     ensures sums { IfOk result (SumsUpLeafAt S.K.cmp S.Argument.is_summary (S.slots store.new) id) }
-    ensures refused { OnErr result (S.slots store.new ≡ S.slots store.old) }
-    ensures handed_back { IfErr result (λ pair. pair ≡ (key, value)) }
+    ensures unchanged { OnErr result (S.slots store.new ≡ S.slots store.old) }
+    ensures returned { IfErr result (λ pair. pair ≡ (key, value)) }
 {
     let leaf = store.get_mut_leaf(id);
     leaf.insert_at(slot, key, value);
@@ -65,7 +66,7 @@ fn add_at<S: NodeStore>(
     }
 }
 
-// Undoes what `add_at` did.
+// Undoes `add_at`, and returns the pair.
 fn take_back<S: NodeStore>(store: &mut S, id: LeafNodeId, slot: usize) -> (S::K, S::V)
     requires present { IsPresent ((S.slots store.old).leaf id.0) }
     requires slot { slot < length (leaf_pairs ((S.slots store.old).leaf id.0)) }
@@ -77,8 +78,8 @@ fn take_back<S: NodeStore>(store: &mut S, id: LeafNodeId, slot: usize) -> (S::K,
     pair
 }
 
-// Puts a pair with a new key into the leaf at the end of a path, which has room. It returns a
-// summary of all keys.
+// Puts a pair with a new key into the leaf at the end of a path, which has room, and returns a
+// summary of all keys. If a summary fails, it returns the pair, and the store is unchanged.
 fn put_in_room<S: NodeStore>(
     store: &mut S,
     path: &mut VisitStack,
@@ -88,12 +89,12 @@ fn put_in_room<S: NodeStore>(
     key: S::K,
     value: S::V,
 ) -> Result<S::Argument, (S::K, S::V)>
-    requires due { IsDue S.K.cmp S.Argument.is_summary (S.slots store.old) path.old id slot key }
-    requires told { SumsUpDue S.K.cmp S.Argument.is_summary (S.slots store.old) path.old id slot key whole.now }
+    requires due { BelongsAt S.K.cmp S.Argument.is_summary (S.slots store.old) path.old id slot key }
+    requires reported { SumsUpDue S.K.cmp S.Argument.is_summary (S.slots store.old) path.old id slot key whole.now }
     requires room { length (leaf_pairs ((S.slots store.old).leaf id.0)) < 64 }
-    ensures placed { PlacesDue S.K.cmp S.Argument.is_summary (S.slots store.old) (S.slots store.new) path.old id slot key value result }
-    ensures refused { OnErr result (S.slots store.new ≡ S.slots store.old) }
-    ensures handed_back { IfErr result (λ pair. pair ≡ (key, value)) }
+    ensures placed { IndexesOfAbsent S.K.cmp S.Argument.is_summary (S.slots store.old) (S.slots store.new) path.old id slot key value result }
+    ensures unchanged { OnErr result (S.slots store.new ≡ S.slots store.old) }
+    ensures returned { IfErr result (λ pair. pair ≡ (key, value)) }
 {
     let summary = add_at(store, id, slot, key, value)?;
     match ascend(store, path, whole, summary) {
@@ -102,23 +103,24 @@ fn put_in_room<S: NodeStore>(
     }
 }
 
-// Splits a full leaf, and puts the pair into one of the parts. It returns what the node above has
-// to take.
+// Splits a full leaf, and puts the pair into one of the halves. Returns what the node above has to
+// take, and the id of the new leaf. If an allocation fails, it returns the pair, and the store is
+// unchanged.
 fn split_at<S: NodeStore>(
     store: &mut S,
     id: LeafNodeId,
     slot: usize,
     key: S::K,
     value: S::V,
-) -> Result<(Division<S::K, S::Argument>, LeafNodeId), (S::K, S::V)>
+) -> Result<(NodeSplit<S::K, S::Argument>, LeafNodeId), (S::K, S::V)>
     requires present { IsPresent ((S.slots store.old).leaf id.0) }
     requires full { length (leaf_pairs ((S.slots store.old).leaf id.0)) ≡ 64 }
     requires slot { slot ≤ 64 }
     ensures divides { Divides S.K.cmp (S.slots store.old) (S.slots store.new) id slot (key, value) result }
     ensures left { IfOk result (LeftSumsUp S.K.cmp S.Argument.is_summary (S.slots store.new) id) }
     ensures right { IfOk result (RightSumsUp S.K.cmp S.Argument.is_summary (S.slots store.new)) }
-    ensures refused { OnErr result (S.slots store.new ≡ S.slots store.old) }
-    ensures handed_back { IfErr result (λ pair. pair ≡ (key, value)) }
+    ensures unchanged { OnErr result (S.slots store.new ≡ S.slots store.old) }
+    ensures returned { IfErr result (λ pair. pair ≡ (key, value)) }
 {
     let Ok(separator) = separator(store, id, slot, &key) else {
         return Err((key, value));
@@ -146,14 +148,14 @@ fn split_at<S: NodeStore>(
     }
 }
 
-// What the node above has to take of two leaves: summaries of their keys, and the separator before
-// the right one.
+// Returns what the node above has to take of two leaves: the summaries of their keys, and the
+// separator before the right one.
 fn divided<K: Key, V: Drop, A: Argument<K>>(
     left: &LeafNode<K, V>,
     separator: K,
     fresh: LeafNodeId,
     right: &LeafNode<K, V>,
-) -> Result<Division<K, A>, AllocError>
+) -> Result<NodeSplit<K, A>, AllocError>
     ensures left { IfOk result (λ done. SumsUpLeaf K.cmp A.is_summary left.now.pairs done.left) }
     ensures right { IfOk result (λ done. SumsUpLeaf K.cmp A.is_summary right.now.pairs done.right) }
     ensures separator { IfOk result (λ division. division.separator ≡ separator) }
@@ -161,7 +163,7 @@ fn divided<K: Key, V: Drop, A: Argument<K>>(
 {
     let left = A::from_leaf(left.keys())?;
     let right = A::from_leaf(right.keys())?;
-    Ok(Division {
+    Ok(NodeSplit {
         left,
         separator,
         node: NodeId::Leaf(fresh),
@@ -169,7 +171,7 @@ fn divided<K: Key, V: Drop, A: Argument<K>>(
     })
 }
 
-// Undoes what `split_at` did.
+// Undoes `split_at`, and returns the pair.
 fn undo_split_at<S: NodeStore>(
     store: &mut S,
     id: LeafNodeId,
@@ -189,8 +191,8 @@ fn undo_split_at<S: NodeStore>(
     pair
 }
 
-// Where a leaf was split by a pair that went into the right half, the store is to remember that one
-// at once. It remembers a leaf that is given twice in turn.
+// Makes the store cache the right half of a split leaf at once, if the new pair went into that half
+// and no summaries are kept. The store caches a leaf that it is given twice in a row.
 fn remember_right<S: NodeStore>(store: &S, right: LeafNodeId, slot: usize) {
     if slot >= 32 && S::Argument::is_zst() {
         store.cache_leaf(right);
@@ -198,8 +200,9 @@ fn remember_right<S: NodeStore>(store: &S, right: LeafNodeId, slot: usize) {
     }
 }
 
-// Puts a pair with a new key into the leaf at the end of a path, which is split where it is full.
-// It returns the number of a new root, where the root was split too, and a summary of all keys.
+// Puts a pair with a new key into the leaf at the end of a path, which is split if it is full.
+// Returns the id of a new root, if the root was split too, and a summary of all keys. If an
+// allocation fails, it returns the pair, and the store is unchanged.
 fn put_new<S: NodeStore>(
     store: &mut S,
     path: &mut VisitStack,
@@ -209,10 +212,10 @@ fn put_new<S: NodeStore>(
     pair: (S::K, S::V),
 ) -> Result<(Option<InnerNodeId>, S::Argument), (S::K, S::V)>
     requires due { IsDueBelow S.K.cmp S.Argument.is_summary (S.slots store.old) root path.old at.leaf at.slot pair.0 }
-    requires told { SumsUpDue S.K.cmp S.Argument.is_summary (S.slots store.old) path.old at.leaf at.slot pair.0 whole.now }
-    ensures placed { PlacesDueUpTo S.K.cmp S.Argument.is_summary (S.slots store.old) (S.slots store.new) path.old at.leaf at.slot pair.0 pair.1 root result }
-    ensures refused { OnErr result (S.slots store.new ≡ S.slots store.old) }
-    ensures handed_back { IfErr result (λ back. back ≡ pair) }
+    requires reported { SumsUpDue S.K.cmp S.Argument.is_summary (S.slots store.old) path.old at.leaf at.slot pair.0 whole.now }
+    ensures placed { IndexesOfAbsentUpTo S.K.cmp S.Argument.is_summary (S.slots store.old) (S.slots store.new) path.old at.leaf at.slot pair.0 pair.1 root result }
+    ensures unchanged { OnErr result (S.slots store.new ≡ S.slots store.old) }
+    ensures returned { IfErr result (λ back. back ≡ pair) }
 {
     let Position { leaf: id, slot } = at;
     let (key, value) = pair;
@@ -233,7 +236,7 @@ fn put_new<S: NodeStore>(
     }
 }
 
-// Puts a value in the place of another.
+// Replaces the value at a slot of a leaf, and returns the old one.
 fn replace_at<S: NodeStore>(store: &mut S, id: LeafNodeId, slot: usize, v: S::V) -> S::V
     requires present { IsPresent ((S.slots store.old).leaf id.0) }
     requires slot { slot < length (leaf_pairs ((S.slots store.old).leaf id.0)) }
@@ -243,10 +246,10 @@ fn replace_at<S: NodeStore>(store: &mut S, id: LeafNodeId, slot: usize, v: S::V)
     store.get_mut_leaf(id).replace_value(slot, v)
 }
 
-// The root and the height, with a new root if there is one.
+// Returns the root and the height of a tree, with a new root if there is one.
 fn top_of(root: NodeId, height: usize, top: Option<InnerNodeId>) -> (NodeId, usize)
     requires { height ≤ 15 }
-    ensures { result ≡ risen root height top }
+    ensures { result ≡ root_after root height top }
 {
     match top {
         Some(id) => (NodeId::Inner(id), height + 1),
@@ -254,8 +257,10 @@ fn top_of(root: NodeId, height: usize, top: Option<InnerNodeId>) -> (NodeId, usi
     }
 }
 
-/// Whether a tree of so many pairs takes no pair with a new key: its length could not count one
-/// more.
+/// Returns whether a tree of `len` pairs takes no pair with a new key, because its length could not
+/// count one more.
+///
+/// O(1). It allocates nothing and cannot fail.
 pub fn is_full(len: usize) -> bool
     ensures full { result ≡ true → len ≡ usize.MAX }
     ensures room { result ≡ false → len ≢ usize.MAX }
@@ -263,8 +268,9 @@ pub fn is_full(len: usize) -> bool
     len == usize::MAX
 }
 
-// Finds the slot of a key in a leaf, or the number of smaller keys, in the way that a hint chooses.
-// In the last of several leaves a new key is likely greater than all others.
+// Finds the slot of a key in a leaf, or the number of smaller keys. The hint determines how it
+// searches, but in the last of several leaves it compares the last key first, since ascending keys
+// are inserted behind it.
 #[inline(always)]
 fn slot_for<K: Key, V: Drop>(
     leaf: &LeafNode<K, V>,
@@ -273,7 +279,7 @@ fn slot_for<K: Key, V: Drop>(
 ) -> Result<usize, usize>
     ensures in_range { IsSearchInRange result (length leaf.now.pairs) }
     ensures found { IfOk result (HasEqualAt K.cmp leaf.now.pairs key.now) }
-    ensures place { IsPlaceInLeaf K.cmp leaf.now key.now result }
+    ensures index { IsIndexInLeaf K.cmp leaf.now key.now result }
 {
     let hint = if leaf.next().is_none() && leaf.prev().is_some() {
         SearchHint::Last
@@ -283,11 +289,11 @@ fn slot_for<K: Key, V: Drop>(
     leaf.locate_slot_counted(key, hint, &mut Compares::new())
 }
 
-// The remembered leaf, where it holds the key and has room, and where no node above it is told of a
-// change: every value is a summary of every list.
+// Returns the cached leaf, if it holds the key and has room, and if every value is a summary of
+// every list: then no node above the leaf needs a new summary.
 #[inline(always)]
-fn leaf_at_hand<S: NodeStore>(store: &S, k: &S::K) -> Option<LeafNodeId>
-    ensures { IfSome result (IsAtHand S.K.cmp S.Argument.is_summary (S.slots store.now) k.now) }
+fn cached_leaf_with_room<S: NodeStore>(store: &S, k: &S::K) -> Option<LeafNodeId>
+    ensures { IfSome result (IsCached S.K.cmp S.Argument.is_summary (S.slots store.now) k.now) }
 {
     if !S::Argument::is_zst() {
         return None;
@@ -306,12 +312,12 @@ fn put_cached<S: NodeStore>(
     k: S::K,
     v: S::V,
 ) -> Result<Option<S::V>, (S::K, S::V)>
-    requires cached { IsAtHand S.K.cmp S.Argument.is_summary (S.slots tree.old.store) k leaf }
+    requires cached { IsCached S.K.cmp S.Argument.is_summary (S.slots tree.old.store) k leaf }
     requires room { HasRoomFor S.K.cmp tree.old.contents k }
     ensures put { IfOk result (PutsPair S.K.cmp k v tree.old.contents tree.new.contents) }
     ensures whole { IsWhole S.K.cmp S.Argument.is_summary S.slots tree.new }
-    ensures refused { OnErr result (IsUntouched S.slots tree.new tree.old) }
-    ensures handed_back { IfErr result (λ pair. pair ≡ (k, v)) }
+    ensures unchanged { OnErr result (IsUntouched S.slots tree.new tree.old) }
+    ensures returned { IfErr result (λ pair. pair ≡ (k, v)) }
     ensures absent { OnErr result (has S.K.cmp tree.old.contents k ≡ false) }
 {
     let found = slot_for(tree.store.get_leaf(leaf), SearchHint::Near, &k);
@@ -328,8 +334,9 @@ fn put_cached<S: NodeStore>(
     }
 }
 
-// Inserts a pair with a new key at a position that a path leads to. The leaf, and each node above
-// it, is split if it is full.
+// Inserts a pair with a new key at a position that a path leads to, and splits the leaf, and each
+// node above it, if it is full. If an allocation fails, it returns the pair, and the tree is
+// unchanged.
 fn insert_new<S: NodeStore>(
     tree: &mut Nodes<S>,
     path: &mut VisitStack,
@@ -341,8 +348,8 @@ fn insert_new<S: NodeStore>(
     requires absent { has S.K.cmp tree.old.contents k ≡ false }
     ensures put { IfOk result (λ _. tree.new.contents ≡ put S.K.cmp tree.old.contents k v) }
     ensures whole { IsWhole S.K.cmp S.Argument.is_summary S.slots tree.new }
-    ensures refused { OnErr result (IsUntouched S.slots tree.new tree.old) }
-    ensures handed_back { IfErr result (λ pair. pair ≡ (k, v)) }
+    ensures unchanged { OnErr result (IsUntouched S.slots tree.new tree.old) }
+    ensures returned { IfErr result (λ pair. pair ≡ (k, v)) }
 {
     let (top, summary) = put_new(&mut tree.store, path, &tree.summary, tree.root, at, (k, v))?;
     let (root, height) = top_of(tree.root, tree.height, top);
@@ -355,13 +362,14 @@ fn insert_new<S: NodeStore>(
 
 /// Puts a pair into a tree, and returns the value that was there.
 ///
-/// An equal key stays, and its value alone is replaced. A new key's leaf, and each node above it,
-/// takes a new summary; each of them that is full is split. If it fails, it returns the pair, and
-/// the tree is unchanged. `path` is scratch space, so that none is allocated: what it holds before
-/// is discarded. If no summaries are kept, the store is told to remember the leaf, and a pair that
-/// belongs in the remembered leaf needs no descent while that leaf has room. It takes O(log n)
-/// comparisons, and allocates only the nodes of a split, a clone of the separator and the
-/// summaries.
+/// An equal key stays, and only its value is replaced. A new key's leaf, and each node above it,
+/// takes a new summary; each of them that is full is split. `path` is scratch space, reused to
+/// avoid an allocation; what it held before is discarded. If no summaries are kept, the leaf is
+/// given to the store to cache (`cache_leaf`), and a pair that belongs in the cached leaf needs no
+/// descent while that leaf has room.
+///
+/// O(log n) comparisons. It allocates only the nodes of a split, a clone of the separator and the
+/// summaries. If an allocation fails, it returns the pair, and the tree is unchanged.
 pub fn upsert<S: NodeStore>(
     tree: &mut Nodes<S>,
     path: &mut VisitStack,
@@ -371,11 +379,11 @@ pub fn upsert<S: NodeStore>(
     requires { HasRoomFor S.K.cmp tree.old.contents k }
     ensures put { IfOk result (PutsPair S.K.cmp k v tree.old.contents tree.new.contents) }
     ensures whole { IsWhole S.K.cmp S.Argument.is_summary S.slots tree.new }
-    ensures refused { OnErr result (IsUntouched S.slots tree.new tree.old) }
-    ensures handed_back { IfErr result (λ pair. pair ≡ (k, v)) }
+    ensures unchanged { OnErr result (IsUntouched S.slots tree.new tree.old) }
+    ensures returned { IfErr result (λ pair. pair ≡ (k, v)) }
     ensures absent { OnErr result (has S.K.cmp tree.old.contents k ≡ false) }
 {
-    if let Some(leaf) = leaf_at_hand(&tree.store, &k) {
+    if let Some(leaf) = cached_leaf_with_room(&tree.store, &k) {
         return put_cached(tree, leaf, k, v);
     }
     path.clear();
@@ -383,8 +391,8 @@ pub fn upsert<S: NodeStore>(
     if S::Argument::is_zst() {
         tree.store.cache_leaf(leaf);
     }
-    // An insertion moves pairs behind the slot that the search finds, so the search begins with
-    // branches one level sooner than that of a look-up.
+    // The insertion's memory moves depend on the slot, so the search branches one level earlier
+    // than that of a look-up.
     let hint = SearchHint::below(tree.height.saturating_add(1));
     let found = slot_for(tree.store.get_leaf(leaf), hint, &k);
     match found {

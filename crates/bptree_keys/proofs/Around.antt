@@ -1,4 +1,4 @@
--- The definitions look no further than the part between the smaller and the greater keys.
+-- The definitions depend only on the part between the smaller and the greater keys.
 use Rattle.std.proofs.Common.{◌≡◌, Bool, true, false, not, List, [], ◌∷◌, ◌++◌, refl, ap, subst, cond, ◌∙◌, append_assoc}
 use Rattle.std.specs.declared.cmp.Ordering.{Ordering}
 use Rattle.std.specs.declared.cmp.Ordering.TheVariants.{Less, Greater}
@@ -7,20 +7,20 @@ use Rattle.std.specs.Map.{set_value}
 use Rattle.std.proofs.lemmas.List.{append-nil}
 use Rattle.std.proofs.lemmas.List.Elements.{filter-append}
 use Rattle.bptree_keys.specs.Contents.{pairs_below, pairs_above, has, value, put, del}
-use Rattle.bptree_keys.specs.Places.{AllAnswer}
+use Rattle.bptree_keys.specs.Indexes.{AllCompare}
 use Rattle.bptree_keys.proofs.Parted.{filter_all, filter_none, lookup_past, has_past, set_value_past}
 
 module _ {K V : Type 0} (cmp : K → K → Ordering) (k : K) where
-  -- before greater keys
-  has_before : (l after : List (K × V)) → AllAnswer cmp k Greater after → has cmp (l ++ after) k ≡ has cmp l k
+  -- greater keys at the end do not change `has`
+  has_before : (l after : List (K × V)) → AllCompare cmp k Greater after → has cmp (l ++ after) k ≡ has cmp l k
   has_before [] after all = rw (← append-nil after, has_past cmp k Greater after [] refl all) refl
   has_before (p ∷ l) after all = rw (has_before l after all) refl
 
-  value_before : (l after : List (K × V)) → AllAnswer cmp k Greater after → value cmp (l ++ after) k ≡ value cmp l k
+  value_before : (l after : List (K × V)) → AllCompare cmp k Greater after → value cmp (l ++ after) k ≡ value cmp l k
   value_before [] after all = rw (← append-nil after, lookup_past cmp k Greater after [] refl all) refl
   value_before (p ∷ l) after all = rw (value_before l after all) refl
 
-  set_value_before : (l after : List (K × V)) (v : V) → AllAnswer cmp k Greater after → set_value (λ key. is_eq (cmp key k)) (l ++ after) v ≡ set_value (λ key. is_eq (cmp key k)) l v ++ after
+  set_value_before : (l after : List (K × V)) (v : V) → AllCompare cmp k Greater after → set_value (λ key. is_eq (cmp key k)) (l ++ after) v ≡ set_value (λ key. is_eq (cmp key k)) l v ++ after
   set_value_before [] after v all = subst (λ more. set_value (λ key. is_eq (cmp key k)) more v ≡ more) (append-nil after) (set_value_past cmp k Greater after [] v refl all)
   set_value_before (p ∷ l) after v all =
       elim (is_eq (cmp p.0 k)) as (λ b. cond b ((p.0, v) ∷ (l ++ after)) (p ∷ set_value (λ key. is_eq (cmp key k)) (l ++ after) v) ≡ cond b ((p.0, v) ∷ l) (p ∷ set_value (λ key. is_eq (cmp key k)) l v) ++ after) [
@@ -28,7 +28,7 @@ module _ {K V : Type 0} (cmp : K → K → Ordering) (k : K) where
         | false ↦ ap (λ more. p ∷ more) (set_value_before l after v all)
       ]
 
-module _ {K V : Type 0} (cmp : K → K → Ordering) (k : K) (before l after : List (K × V)) (smaller : AllAnswer cmp k Less before) (greater : AllAnswer cmp k Greater after) where
+module _ {K V : Type 0} (cmp : K → K → Ordering) (k : K) (before l after : List (K × V)) (smaller : AllCompare cmp k Less before) (greater : AllCompare cmp k Greater after) where
   pub has_around : has cmp (before ++ (l ++ after)) k ≡ has cmp l k
   has_around = has_past cmp k Less before (l ++ after) refl smaller ∙ has_before cmp k l after greater
 

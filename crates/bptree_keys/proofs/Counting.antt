@@ -1,4 +1,4 @@
--- How many keys are not above another, by steps.
+-- The number of keys that are not greater than another key, found by steps.
 use Rattle.std.proofs.Common.{◌≡◌, ℕ, ◌+◌, ◌-◌, ◌*◌, ◌<◌, ◌≤◌, zero, suc, List, [], ◌∷◌, length, get_or, refl, sym, ap, subst, ◌∙◌, arith, Ordering, true, false, Bool, cond}
 use Rattle.std.proofs.lemmas.List.Sums.{sum_by-cons}
 use Rattle.std.specs.List.{AllWithin, HoldsAt, count_by}
@@ -14,7 +14,7 @@ is_at_most Less h = refl
 is_at_most Equal h = refl
 is_at_most Greater h = absurd (omega arith)
 
--- where the first ones pass a test and the others fail it, as many pass
+-- if the first n members pass a test and the others fail it, n members pass it
 count_parted : {X : Type 0} (p : X → Bool) (xs : List X) (n : ℕ) → n ≤ length xs → AllWithin (λ y. p y ≡ true) xs 0 n → AllWithin (λ y. p y ≡ false) xs n (length xs) → n ≡ count_by p xs
 count_parted p [] n h a b = omega arith
 count_parted p (x ∷ xs) zero h a b =
@@ -27,18 +27,18 @@ count_parted p (x ∷ xs) (suc n) h a b =
     ap suc others ∙ sym (sum_by-cons (λ y. cond (p y) 1 0) x xs ∙ rw passes (omega arith))
 
 module _ {X : Type 0} (ord : X → Ordering) (xs : List X) where
-  -- where the answers rise, no key up to one that is not above is above
+  -- if the comparisons do not descend, no key up to one that is not greater is greater
   all_upto : (i : ℕ) → i < length xs → HoldsAt (λ y. ordering_index (ord y) ≤ 1) xs i → IsNonDecreasingBy (λ y. ordering_index (ord y)) xs → AllWithin (λ y. is_le (ord y) ≡ true) xs 0 (i + 1)
   all_upto i h n up k d a b = is_at_most _ (omega (arith, up k i d (omega arith) h, n d))
 
-  -- the last key is not above
+  -- if the last key is not greater, no key is
   pub count_all : (x : X) → 0 < length xs → x ≡ get_or xs (length xs - 1) x → is_le (ord x) ≡ true → IsNonDecreasingBy (λ y. ordering_index (ord y)) xs → length xs ≡ count_by (λ y. is_le (ord y)) xs
   count_all x h e p up =
       count_parted (λ y. is_le (ord y)) xs (length xs) (omega arith)
       (λ k d a b. all_upto (length xs - 1) (omega arith) (at_x ord xs (λ y. ordering_index (ord y) ≤ 1) (length xs - 1) x (omega arith) e (not_Greater _ p)) up k d a (omega arith))
       (λ k d a b. absurd (omega arith))
 
-  -- the last key is above: after a comparison the number is one of those from rest on, or of the first ones
+  -- if the last key is greater, the number is, by one more comparison, one of those from rest on or one of the first ones
   pub count_ends : (rest width bit : ℕ) (x y : X) (o : Ordering) (is_past : Bool) → rest < length xs → y ≡ get_or xs (length xs - 1) y → is_le (ord y) ≡ false → x ≡ get_or xs (rest - 1) x → o ≡ ord x → is_past ≡ is_le o → bit ≡ bool_byte is_past
       → length xs ≤ rest + width → rest ≤ width → CountsAmong ord xs (bit * rest) width
   count_ends rest width bit x y o true h ey f e p q b w l = subst (λ (m : ℕ). CountsAmong ord xs m width) {x = rest} {y = bit * rest} (omega (arith, ap (λ m. m * rest) b)) (record {
@@ -50,7 +50,7 @@ module _ {X : Type 0} (ord : X → Ordering) (xs : List X) where
     high = λ up k d i j. all_after ord xs (rest - 1) x (omega arith) e (is_Greater _ (ap is_le (sym p) ∙ sym q)) up k d (omega arith) j;
   })
 
-  -- one number is left
+  -- if only one number is left, it is the number of keys that are not greater
   pub count_end : (base width : ℕ) → width ≤ 1 → 0 < width → base ≤ length xs → CountsAmong ord xs base width → IsNonDecreasingBy (λ y. ordering_index (ord y)) xs → base ≡ count_by (λ y. is_le (ord y)) xs
   count_end base width one some h n up =
       count_parted (λ y. is_le (ord y)) xs base h
@@ -60,7 +60,7 @@ module _ {X : Type 0} (ord : X → Ordering) (xs : List X) where
       above : (o : Ordering) → o ≡ Greater → is_le o ≡ false
       above o e = ap is_le e
 
-  -- after a comparison, whose answer moves base by a product
+  -- the bounds of the number after a comparison, whose result moves base by a product
   pub count_then : (base next half width left bit : ℕ) (x : X) (o : Ordering) (is_past : Bool) → 0 < half → base + half ≤ length xs → x ≡ get_or xs (base + half - 1) x → o ≡ ord x → is_past ≡ is_le o
       → bit ≡ bool_byte is_past → next ≡ base + bit * half → width ≤ half + left → half ≤ left → CountsAmong ord xs base width → (next ≤ base + half) × CountsAmong ord xs next left
   count_then base next half width left bit x o true s h e p q b r w l n =

@@ -1,4 +1,4 @@
--- Equal keys find the same.
+-- Equal keys find the same value.
 use Rattle.std.proofs.Common.{◌≡◌, Bool, List, [], ◌∷◌, Option, Some, refl, is_some, cond, ◌||◌}
 use Rattle.std.specs.declared.cmp.Ordering.{Ordering}
 use Rattle.std.specs.declared.cmp.Ordering.TheVariants.{Less, Equal, Greater}
@@ -12,12 +12,12 @@ module _ {K V : Type 0} (cmp : K → K → Ordering) where
   value_at_equal total [] j k same = refl
   value_at_equal total (p ∷ l) j k same = rw (alike_right total j k p.0 same, value_at_equal total l j k same) refl
 
-  -- a key is there where it has a value
+  -- a key is in the list if and only if it has a value
   pub has_where_value : (l : List (K × V)) (k : K) → is_some (value cmp l k) ≡ has cmp l k
   has_where_value [] k = refl
-  has_where_value (p ∷ l) k = by_answer (cmp p.0 k) p.1 (value cmp l k) (has cmp l k) (has_where_value l k)
+  has_where_value (p ∷ l) k = by_result (cmp p.0 k) p.1 (value cmp l k) (has cmp l k) (has_where_value l k)
     where
-      by_answer : (o : Ordering) (v : V) (rest : Option V) (there : Bool) → is_some rest ≡ there → is_some (cond (is_eq o) (Some v) rest) ≡ (is_eq o || there)
-      by_answer Less v rest there same = same
-      by_answer Equal v rest there same = refl
-      by_answer Greater v rest there same = same
+      by_result : (o : Ordering) (v : V) (rest : Option V) (there : Bool) → is_some rest ≡ there → is_some (cond (is_eq o) (Some v) rest) ≡ (is_eq o || there)
+      by_result Less v rest there same = same
+      by_result Equal v rest there same = refl
+      by_result Greater v rest there same = same

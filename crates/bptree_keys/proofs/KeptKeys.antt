@@ -1,4 +1,4 @@
--- What holds of each key, before and after a pair is put or deleted.
+-- A property of each key still holds after a pair is put or deleted.
 use Rattle.std.proofs.Common.{Bool, true, false, List, [], ◌∷◌, ◌++◌, filter, cond}
 use Rattle.std.specs.declared.cmp.Ordering.{Ordering}
 use Rattle.std.specs.Ordering.{is_lt, is_eq, is_gt}

@@ -1,4 +1,4 @@
--- What the definitions keep of any ascending list.
+-- The definitions keep an ascending list ascending.
 use Rattle.std.proofs.Common.{◌≡◌, Bool, true, false, List, [], ◌∷◌, ◌++◌, refl, sym, ap, subst, cond}
 use mathlib.Core.Bool.{true≢false}
 use Rattle.std.specs.declared.cmp.Ordering.{Ordering}
@@ -6,11 +6,11 @@ use Rattle.std.specs.declared.cmp.Ordering.TheVariants.{Less, Equal, Greater}
 use Rattle.std.specs.Cmp.{IsTotalOrder}
 use Rattle.std.specs.List.Sorted.{IsStrictlySortedBy}
 use Rattle.bptree_keys.specs.Contents.{IsAscending, has, put, gather}
-use Rattle.bptree_keys.specs.Places.{IsHit}
+use Rattle.bptree_keys.specs.Indexes.{IsHit}
 use Rattle.bptree_keys.proofs.Parted.{put_gap, put_hit}
 use Rattle.bptree_keys.proofs.Ascending.{equal_parts, gap_if_absent, ascending_in_gap, ascending_with_value}
 
--- a pair with an equal key, and what stands before and after it
+-- a pair with an equal key, and the pairs before and after it
 pub record Found {K V : Type 0} (cmp : K → K → Ordering) (l : List (K × V)) (k : K) : Type 0 where
   pub before : List (K × V)
   pub pair : K × V
@@ -33,7 +33,7 @@ module _ {K V : Type 0} (cmp : K → K → Ordering) (k : K) where
   found_if_there (p ∷ l) there = found_cons p l (found_if_there l) (cmp p.0 k) refl there
 
 module _ {K V : Type 0} (cmp : K → K → Ordering) (total : IsTotalOrder cmp) (l : List (K × V)) (ascending : IsAscending cmp l) (k : K) where
-  -- an equal key parts the list
+  -- an equal key divides the list
   pub hit_if_there : (there : has cmp l k ≡ true) → let found = found_if_there cmp k l there in IsHit cmp l found.before found.pair found.after k
   hit_if_there there =
       let found = found_if_there cmp k l there in

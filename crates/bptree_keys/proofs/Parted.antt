@@ -1,4 +1,4 @@
--- What the definitions of the contents compute where the list is parted at a key.
+-- The results of the definitions of the contents for a list that is divided at a key.
 use Rattle.std.proofs.Common.{◌≡◌, Bool, true, false, not, List, [], ◌∷◌, ◌++◌, filter, Some, None, refl}
 use Rattle.std.specs.declared.cmp.Ordering.{Ordering}
 use Rattle.std.specs.declared.cmp.Ordering.TheVariants.{Less, Greater}
@@ -7,32 +7,32 @@ use Rattle.std.specs.Map.{set_value}
 use Rattle.std.proofs.lemmas.List.{append-nil}
 use Rattle.std.proofs.lemmas.List.Elements.{filter-append}
 use Rattle.bptree_keys.specs.Contents.{pairs_below, pairs_above, has, value, put, del}
-use Rattle.bptree_keys.specs.Places.{AllAnswer, IsGap, IsHit}
+use Rattle.bptree_keys.specs.Indexes.{AllCompare, IsKeyGap, IsHit}
 
 module _ {K V : Type 0} (cmp : K → K → Ordering) (k : K) where
-  -- a test of the answer keeps all, or none, of such pairs
-  pub filter_all : (test : Ordering → Bool) (o : Ordering) (l : List (K × V)) → test o ≡ true → AllAnswer cmp k o l → filter (λ pair. test (cmp pair.0 k)) l ≡ l
+  -- if every key compares as o with k, a filter by the comparison keeps all of the pairs, or no pair
+  pub filter_all : (test : Ordering → Bool) (o : Ordering) (l : List (K × V)) → test o ≡ true → AllCompare cmp k o l → filter (λ pair. test (cmp pair.0 k)) l ≡ l
   filter_all test o [] passes all = refl
   filter_all test o (p ∷ l) passes all = rw (all.0, passes, filter_all test o l passes all.1) refl
 
-  pub filter_none : (test : Ordering → Bool) (o : Ordering) (l : List (K × V)) → test o ≡ false → AllAnswer cmp k o l → filter (λ pair. test (cmp pair.0 k)) l ≡ []
+  pub filter_none : (test : Ordering → Bool) (o : Ordering) (l : List (K × V)) → test o ≡ false → AllCompare cmp k o l → filter (λ pair. test (cmp pair.0 k)) l ≡ []
   filter_none test o [] fails all = refl
   filter_none test o (p ∷ l) fails all = rw (all.0, fails, filter_none test o l fails all.1) refl
 
-  -- no key equals k in pairs that answer otherwise
-  pub lookup_past : (o : Ordering) (before l : List (K × V)) → is_eq o ≡ false → AllAnswer cmp k o before → value cmp (before ++ l) k ≡ value cmp l k
+  -- a look-up of k skips pairs whose keys do not equal k
+  pub lookup_past : (o : Ordering) (before l : List (K × V)) → is_eq o ≡ false → AllCompare cmp k o before → value cmp (before ++ l) k ≡ value cmp l k
   lookup_past o [] l fails all = refl
   lookup_past o (p ∷ before) l fails all = rw (all.0, fails) (lookup_past o before l fails all.1)
 
-  pub has_past : (o : Ordering) (before l : List (K × V)) → is_eq o ≡ false → AllAnswer cmp k o before → has cmp (before ++ l) k ≡ has cmp l k
+  pub has_past : (o : Ordering) (before l : List (K × V)) → is_eq o ≡ false → AllCompare cmp k o before → has cmp (before ++ l) k ≡ has cmp l k
   has_past o [] l fails all = refl
   has_past o (p ∷ before) l fails all = rw (all.0, fails) (has_past o before l fails all.1)
 
-  pub set_value_past : (o : Ordering) (before l : List (K × V)) (v : V) → is_eq o ≡ false → AllAnswer cmp k o before → set_value (λ key. is_eq (cmp key k)) (before ++ l) v ≡ before ++ set_value (λ key. is_eq (cmp key k)) l v
+  pub set_value_past : (o : Ordering) (before l : List (K × V)) (v : V) → is_eq o ≡ false → AllCompare cmp k o before → set_value (λ key. is_eq (cmp key k)) (before ++ l) v ≡ before ++ set_value (λ key. is_eq (cmp key k)) l v
   set_value_past o [] l v fails all = refl
   set_value_past o (p ∷ before) l v fails all = rw (all.0, fails, set_value_past o before l v fails all.1) refl
 
-module _ {K V : Type 0} (cmp : K → K → Ordering) (l before after : List (K × V)) (k : K) (gap : IsGap cmp l before after k) where
+module _ {K V : Type 0} (cmp : K → K → Ordering) (l before after : List (K × V)) (k : K) (gap : IsKeyGap cmp l before after k) where
   pub has_gap : has cmp l k ≡ false
   has_gap = rw (gap.parts, has_past cmp k Less before after refl gap.smaller, ← append-nil after, has_past cmp k Greater after [] refl gap.greater) refl
 

@@ -9,7 +9,7 @@ module _ {X : Type 0} where
   behind (y ∷ z ∷ zs) zero x e long = absurd (omega (arith, long))
   behind (y ∷ ys) (suc n) x e long = ap (λ l. y ∷ l) (behind ys n x e (omega (arith, long)))
 
-  -- a list is all but its last member, and that one behind it
+  -- a list is all of its members but the last, followed by its last member
   pub last_behind : (xs : List X) (last : Option X) → last ≡ slice_get xs (length xs - 1) → IfSome last (λ x. xs ≡ take (length xs - 1) xs ++ x ∷ [])
   last_behind xs None e = tt
   last_behind xs (Some x) e = behind xs (length xs - 1) x (sym e) (omega (arith, slice_get_within xs (length xs - 1) x (sym e)))

@@ -1,4 +1,4 @@
--- What is known of the pieces of a list, and of the values that stand beside them.
+-- Lemmas about the pieces of a list, and about the values that belong to them.
 use Rattle.std.proofs.Common.{◌≡◌, ℕ, zero, suc, ◌+◌, ◌<◌, List, [], ◌∷◌, ◌++◌, length, take, drop, get_or, refl, sym, ap, ◌∙◌, arith, add-one, length-append, append_assoc}
 use Rattle.std.specs.declared.cmp.Ordering.{Ordering}
 use Rattle.std.specs.declared.cmp.Ordering.TheVariants.{Less}
@@ -7,7 +7,7 @@ use Rattle.std.specs.List.Sorted.{IsStrictlySortedBy}
 use Rattle.std.proofs.lemmas.List.{append-nil}
 use Rattle.bptree_keys.specs.Pieces.{flatten, piece_at, start_of, AllNonEmpty, ArePieces, PiecesReplaced, PieceSplits, PiecesJoin, LastPartMoves, FirstPartMoves, PiecesPart}
 
--- ---- what holds of each element
+-- ---- properties of each element
 
 module _ {X : Type 0} where
   pub AllByRecursion-append : (P : X → Type 0) (xs ys : List X) → AllByRecursion P xs → AllByRecursion P ys → AllByRecursion P (xs ++ ys)
@@ -31,7 +31,7 @@ module _ {X : Type 0} where
   AllByRecursion-at P (x ∷ xs) zero d l h = h.0
   AllByRecursion-at P (x ∷ xs) (suc i) d l h = let small : i < length xs = omega arith in AllByRecursion-at P xs i d small h.1
 
--- ---- what holds of two lists, place by place, as of the arguments of a node and the keys below its children
+-- ---- relations of two lists, index by index, as of the summaries of a node and the keys below its children
 
 module _ {A B : Type 0} (R : A → B → Type 0) where
   pub AllZip-take : (n : ℕ) (xs : List A) (ys : List B) → AllZip R xs ys → AllZip R (take n xs) (take n ys)
@@ -60,7 +60,7 @@ module _ {A B : Type 0} (R : A → B → Type 0) where
   AllZip-at (x ∷ xs) (y ∷ ys) zero d e h l = h.0
   AllZip-at (x ∷ xs) (y ∷ ys) (suc i) d e h l = let small : i < length xs = omega arith in AllZip-at xs ys i d e h.1 small
 
-  -- what holds of two lists that are put together holds of each part
+  -- a relation of two concatenated lists holds for each of their parts
   pub AllZip-left : (xs : List A) (ys : List B) (us : List A) (vs : List B) → length xs ≡ length ys → AllZip R (xs ++ us) (ys ++ vs) → AllZip R xs ys
   AllZip-left [] [] us vs e h = tt
   AllZip-left [] (y ∷ ys) us vs e h = absurd (omega arith)
@@ -80,24 +80,24 @@ module _ {X : Type 0} where
   flatten-append [] qs = refl
   flatten-append (p ∷ ps) qs = ap (λ t. p ++ t) (flatten-append ps qs) ∙ sym (append_assoc p (flatten ps) (flatten qs))
 
-  -- with other pieces in the middle, which are the same elements
+  -- the whole does not change when the pieces in the middle are replaced by others of the same elements
   pub flatten-regrouped : (front old new back : List (List X)) → flatten new ≡ flatten old → flatten (front ++ (new ++ back)) ≡ flatten (front ++ (old ++ back))
   flatten-regrouped front old new back e =
       rw (flatten-append front (new ++ back), flatten-append front (old ++ back), flatten-append new back, flatten-append old back, e) refl
 
-  -- the whole, cut at the ends of one piece
+  -- the whole is the elements before a piece, the piece, and the elements after the piece
   pub flatten-cut : (pieces : List (List X)) (i : ℕ) → i < length pieces → flatten pieces ≡ flatten (take i pieces) ++ (piece_at pieces i ++ flatten (drop (suc i) pieces))
   flatten-cut [] i h = absurd (omega arith)
   flatten-cut (p ∷ ps) zero h = refl
   flatten-cut (p ∷ ps) (suc i) h = let small : i < length ps = omega arith in ap (λ t. p ++ t) (flatten-cut ps i small) ∙ sym (append_assoc p (flatten (take i ps)) _)
 
-  -- the pieces so far, with one more
+  -- the first i + 1 pieces are the first i pieces and the piece at index i
   pub flatten-take_more : (pieces : List (List X)) (i : ℕ) → i < length pieces → flatten (take (i + 1) pieces) ≡ flatten (take i pieces) ++ piece_at pieces i
   flatten-take_more [] i h = absurd (omega arith)
   flatten-take_more (p ∷ ps) zero h = append-nil p
   flatten-take_more (p ∷ ps) (suc i) h = let small : i < length ps = omega arith in rw add-one (ap (λ t. p ++ t) (rw add-one at (flatten-take_more ps i small)) ∙ sym (append_assoc p (flatten (take i ps)) _))
 
-  -- a place in a piece is a place in the whole
+  -- an index in a piece, counted from the start of the piece, is an index in the whole
   pub start_of-below : (pieces : List (List X)) (i j : ℕ) → i < length pieces → j < length (piece_at pieces i) → start_of pieces i + j < length (flatten pieces)
   start_of-below pieces i j h l =
       let a = flatten (take i pieces) in
@@ -105,7 +105,7 @@ module _ {X : Type 0} where
       let c = flatten (drop (suc i) pieces) in
       rw (flatten-cut pieces i h) (omega (arith, length-append a (b ++ c), length-append b c, l))
 
-  -- the parts of a strictly ascending list
+  -- the parts of a strictly ascending list are strictly ascending
   pub sorted_left : (c : X → X → Ordering) (xs ys : List X) → IsStrictlySortedBy c (xs ++ ys) → IsStrictlySortedBy c xs
   unfolding IsStrictlySortedBy
   sorted_left c [] ys h = tt
@@ -116,7 +116,7 @@ module _ {X : Type 0} where
   sorted_right c [] ys h = h
   sorted_right c (x ∷ xs) ys h = sorted_right c xs ys h.1
 
--- ---- pieces of which some change
+-- ---- lists of pieces, some of which change
 
 module _ {K : Type 0} (cmp : K → K → Ordering) where
   pub pieces_replaced : PiecesReplaced cmp
@@ -128,7 +128,7 @@ module _ {K : Type 0} (cmp : K → K → Ordering) where
         fits = l;
       }
 
-  -- other pieces of the same elements
+  -- pieces stay pieces when some are replaced by others of the same elements
   pub pieces_regrouped : (front old new back : List (List K)) → flatten new ≡ flatten old → AllNonEmpty new → ArePieces cmp (front ++ (old ++ back)) → ArePieces cmp (front ++ (new ++ back))
   pieces_regrouped front old new back e n a =
       let same = flatten-regrouped front old new back e in
@@ -173,5 +173,5 @@ module _ {K : Type 0} (cmp : K → K → Ordering) where
         },
       )
 
--- the laws that stand in a contract
+-- the laws of a contract
 pub ruleset laws = (pieces_replaced, piece_splits, pieces_join, last_part_moves, first_part_moves, pieces_part)

@@ -1,4 +1,4 @@
--- What is found after a pair was put or deleted, the order, and the length.
+-- The results of look-ups, the order and the length after a pair is put or deleted.
 use Rattle.std.proofs.Common.{◌≡◌, ◌+◌, Bool, true, false, not, List, [], ◌∷◌, ◌++◌, length, filter, Option, Some, None, refl, sym, ap, cond, is_some, ◌∙◌, ◌||◌, ◌&&◌, arith, length-append}
 use Rattle.std.specs.declared.cmp.Ordering.{Ordering}
 use Rattle.std.specs.declared.cmp.Ordering.TheVariants.{Less, Equal, Greater}
@@ -8,13 +8,13 @@ use Rattle.std.specs.Map.{keys_of}
 use Rattle.std.proofs.lemmas.Cmp.{tied_itself, tied_back}
 use Rattle.std.proofs.lemmas.List.Kept.{IsStrictlySortedBy-filter}
 use Rattle.bptree_keys.specs.Contents.{IsAscending, pairs_below, pairs_above, has, value, put, del}
-use Rattle.bptree_keys.specs.Places.{IsGap, IsHit}
+use Rattle.bptree_keys.specs.Indexes.{IsKeyGap, IsHit}
 use Rattle.bptree_keys.proofs.Parted.{value_gap, value_hit, put_gap, put_hit, del_gap, del_hit}
 use Rattle.bptree_keys.proofs.Ascending.{gap_if_absent}
 use Rattle.bptree_keys.proofs.Equal.{value_at_equal, has_where_value}
 use Rattle.bptree_keys.proofs.Laws.{found_if_there, hit_if_there}
 
--- a test of the keys
+-- the keys that remain after a filter by the key are the filtered keys
 keys_of_filter : {K V : Type 0} (test : K → Bool) (l : List (K × V)) → keys_of (filter (λ pair. test pair.0) l) ≡ filter test (keys_of l)
 keys_of_filter test [] = refl
 keys_of_filter test (p ∷ l) =
@@ -23,11 +23,11 @@ keys_of_filter test (p ∷ l) =
       | false ↦ keys_of_filter test l
     ]
 
--- the list stays ascending where a pair leaves it
+-- the list stays ascending when a pair is deleted
 pub del_ascending : {K V : Type 0} (cmp : K → K → Ordering) (l : List (K × V)) (k : K) → IsAscending cmp l → IsAscending cmp (del cmp l k)
 del_ascending cmp l k ascending = rw (keys_of_filter (λ key. not (is_eq (cmp key k))) l) (IsStrictlySortedBy-filter cmp (λ key. not (is_eq (cmp key k))) (keys_of l) ascending)
 
--- a pair with another key is passed over
+-- a look-up skips a pair with another key
 value_past_other : {K V : Type 0} (cmp : K → K → Ordering) (before : List (K × V)) (pair : K × V) (after : List (K × V)) (j : K) → is_eq (cmp pair.0 j) ≡ false → value cmp (before ++ pair ∷ after) j ≡ value cmp (before ++ after) j
 value_past_other cmp [] pair after j other = rw other refl
 value_past_other cmp (p ∷ before) pair after j other = rw (value_past_other cmp before pair after j other) refl
@@ -65,7 +65,7 @@ module _ {K V : Type 0} (cmp : K → K → Ordering) (total : IsTotalOrder cmp) 
   value_put_by v j true same = value_at_equal cmp total (put cmp l k v) j k (tied_back total k j (equal_if (cmp k j) same)) ∙ value_put_same v (has cmp l k) refl
   value_put_by v j false same = value_put_other v j (has cmp l k) refl same
 
-  -- what is found after a pair was put
+  -- the result of a look-up after a pair is put
   pub value_put : (v : V) (j : K) → value cmp (put cmp l k v) j ≡ cond (is_eq (cmp k j)) (Some v) (value cmp l j)
   value_put v j = value_put_by v j (is_eq (cmp k j)) refl
 
@@ -81,7 +81,7 @@ module _ {K V : Type 0} (cmp : K → K → Ordering) (total : IsTotalOrder cmp) 
   value_del_same true is =
       let found = found_if_there cmp k l is in
       let hit = hit_if_there cmp total l ascending k is in
-      let new : IsGap cmp (found.before ++ found.after) found.before found.after k = record { parts = refl; smaller = hit.smaller; greater = hit.greater } in
+      let new : IsKeyGap cmp (found.before ++ found.after) found.before found.after k = record { parts = refl; smaller = hit.smaller; greater = hit.greater } in
       rw (del_hit cmp l _ _ _ k hit) (value_gap cmp _ _ _ k new)
   value_del_same false is =
       let gap = gap_if_absent cmp total l k ascending is in
@@ -100,7 +100,7 @@ module _ {K V : Type 0} (cmp : K → K → Ordering) (total : IsTotalOrder cmp) 
   value_del_by j true same = value_at_equal cmp total (del cmp l k) j k (tied_back total k j (equal_if (cmp k j) same)) ∙ value_del_same (has cmp l k) refl
   value_del_by j false same = value_del_other j (has cmp l k) refl same
 
-  -- what is found after a pair was deleted
+  -- the result of a look-up after a pair is deleted
   pub value_del : (j : K) → value cmp (del cmp l k) j ≡ cond (is_eq (cmp k j)) None (value cmp l j)
   value_del j = value_del_by j (is_eq (cmp k j)) refl
 
@@ -111,7 +111,7 @@ module _ {K V : Type 0} (cmp : K → K → Ordering) (total : IsTotalOrder cmp) 
   pub has_del : (j : K) → has cmp (del cmp l k) j ≡ not (is_eq (cmp k j)) && has cmp l j
   has_del j = sym (has_where_value cmp (del cmp l k) j) ∙ ap is_some (value_del j) ∙ some_left (is_eq (cmp k j)) (value cmp l j) (has cmp l j) (has_where_value cmp l j)
 
-  -- how long the list then is
+  -- the length of the list after a pair is put
   length_put_by : (v : V) (there : Bool) → has cmp l k ≡ there → length (put cmp l k v) ≡ cond there (length l) (length l + 1)
   length_put_by v true is =
       let found = found_if_there cmp k l is in

@@ -6,8 +6,9 @@ use Rattle.bptree_keys.specs.Contents.{IsAscending, has, value, put, del, next, 
 use Rattle.bptree_keys.specs.Neighbours.{IsAfter, IsBefore}
 
 module _ (K V : Type 0) (cmp : K → K → Ordering) where
-  -- after a pair was put the keys still ascend; its value is found at its key, and at other keys what was there; its key is
-  -- there with the others, and is one more where it was not there
+  -- after a pair is put: the keys still ascend; a look-up of its key finds its value, and a look-up of any other key finds
+  -- what it found before; the list contains its key and the keys that it contained before; and the list is longer by one if
+  -- it did not contain the key
   abbrev pub PutAscends : Type 0
   PutAscends = (l : List (K × V)) → (k : K) → (v : V) → IsAscending cmp l → IsAscending cmp (put cmp l k v)
 
@@ -20,8 +21,9 @@ module _ (K V : Type 0) (cmp : K → K → Ordering) where
   abbrev pub PutAddsOne : Type 0
   PutAddsOne = (l : List (K × V)) → (k : K) → (v : V) → IsAscending cmp l → length (put cmp l k v) ≡ (if has cmp l k then length l else length l + 1)
 
-  -- after a pair was deleted the keys still ascend; nothing is found at its key, and at other keys what was there; its key is
-  -- not there, and is one less where it was there
+  -- after a pair is deleted: the keys still ascend; a look-up of its key finds nothing, and a look-up of any other key finds
+  -- what it found before; the list does not contain its key, and contains the other keys that it contained before; and the
+  -- list is shorter by one if it contained the key
   abbrev pub DelAscends : Type 0
   DelAscends = (l : List (K × V)) → (k : K) → IsAscending cmp l → IsAscending cmp (del cmp l k)
 

@@ -5,12 +5,12 @@ use Rattle.bptree_keys.specs.declared.end.End.TheVariants.{Front, Back}
 use Rattle.bptree_keys.specs.declared.end.Side.{Side}
 use Rattle.bptree_keys.specs.declared.end.Side.TheVariants.{Before, After}
 
--- whether it is the end with the last item
+-- whether the end is the one with the last item
 abbrev pub is_back : End → Bool
 is_back Front = false
 is_back Back = true
 
--- whether it is the side of the later items
+-- whether the side is the one of the later items
 abbrev pub is_after : Side → Bool
 is_after Before = false
 is_after After = true

@@ -6,6 +6,6 @@ pub mod Locate
 pub mod Neighbours
 pub mod Numbers
 pub mod Pieces
-pub mod Places
+pub mod Indexes
 pub mod Ranges
 pub mod Searches

@@ -1,4 +1,4 @@
--- The numbers of nodes: what one of either kind holds, and their order.
+-- Node ids: the id of either kind that one contains, and their order.
 use Rattle.std.specs.Prelude.{Option, Some, None}
 use Rattle.std.specs.declared.cmp.Ordering.{Ordering}
 use Rattle.std.specs.declared.cmp.Ordering.TheVariants.{Less, Greater}
@@ -8,7 +8,7 @@ use Rattle.bptree_keys.specs.declared.node_id.LeafNodeId.{LeafNodeId}
 use Rattle.bptree_keys.specs.declared.node_id.NodeId.{NodeId}
 use Rattle.bptree_keys.specs.declared.node_id.NodeId.TheVariants.{Inner, Leaf}
 
--- the number, where it is a leaf's, and where it is an inner node's
+-- the id of the leaf, if the node is a leaf, and the id of the inner node, if the node is an inner node
 abbrev pub leaf_number : NodeId → Option LeafNodeId
 leaf_number (Inner id) = None
 leaf_number (Leaf id) = Some id
@@ -17,7 +17,7 @@ abbrev pub inner_number : NodeId → Option InnerNodeId
 inner_number (Inner id) = Some id
 inner_number (Leaf id) = None
 
--- two numbers of one kind as their `usize`s, and every inner node before every leaf
+-- two ids of one kind are ordered as their `usize`s, and every inner node is before every leaf
 abbrev pub node_order : NodeId → NodeId → Ordering
 node_order (Inner a) (Inner b) = nat_cmp a.0 b.0
 node_order (Inner a) (Leaf b) = Less

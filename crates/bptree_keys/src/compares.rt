@@ -9,27 +9,28 @@ use std::cmp::Ordering;
 use std::marker::Model;
 use std::mem::size_of_val;
 
-// The most bytes of a key that likely holds all that a comparison reads.
+// The greatest size, in bytes, of a key that is taken to contain all that a comparison reads.
 const LONG: usize = 16;
 
-// Below so many levels of inner nodes a leaf likely stands in no cache.
+// The number of levels of inner nodes below which a leaf is taken to be in no cache.
 const FAR_LEVELS: usize = 3;
 
-/// Where the keys of a leaf likely are. A hint chooses how the leaf is searched, and never changes
+/// A guess about the keys of a leaf. The hint selects how the leaf is searched, and never changes
 /// what is found.
 #[derive(Clone, Copy, Debug, Drop)]
 pub enum SearchHint {
-    /// The keys are likely in a cache of the processor.
+    /// The keys are expected in a cache of the processor.
     Near,
-    /// The keys are likely in no cache. The search begins with branches, so that the next key is
+    /// The keys are expected in no cache. The search begins with branches, so that the next key is
     /// fetched before a comparison is done.
     Far,
-    /// All keys are likely smaller than the one that is searched for. The last is compared first.
+    /// All keys are expected to be smaller than the searched key. The last key is compared first.
     Last,
 }
 
 impl SearchHint {
-    /// The hint for a leaf below so many levels of inner nodes: `Far` from three levels on.
+    /// Returns the hint for a leaf below `levels` levels of inner nodes: `Far` from three levels
+    /// on.
     ///
     /// O(1). It allocates nothing and cannot fail.
     pub fn below(levels: usize) -> Self {
@@ -41,7 +42,7 @@ impl SearchHint {
     }
 }
 
-/// A counter of comparisons. It stops at the greatest `usize`.
+/// A counter of comparisons, which saturates at `usize::MAX`.
 #[derive(Drop)]
 pub struct Compares {
     count: usize,
@@ -56,7 +57,7 @@ impl Model for Compares {
 }
 
 impl Compares {
-    /// A counter at 0.
+    /// Creates a counter with the count 0.
     ///
     /// O(1). It allocates nothing and cannot fail.
     pub fn new() -> Self
@@ -65,7 +66,7 @@ impl Compares {
         Compares { count: 0 }
     }
 
-    /// The number of comparisons that were counted.
+    /// Returns the number of counted comparisons.
     ///
     /// O(1). It allocates nothing and cannot fail.
     pub fn count(&self) -> usize
@@ -74,7 +75,7 @@ impl Compares {
         self.count
     }
 
-    /// Compares two keys, and adds one to the count.
+    /// Compares two keys and adds one to the count.
     ///
     /// O(1) beside the comparison. It cannot fail.
     pub fn compare<K: Ord>(&mut self, a: &K, b: &K) -> Ordering
@@ -87,9 +88,9 @@ impl Compares {
     }
 }
 
-// Leaves of the `width` keys from `base` on, among which the place of `key` is, as `few` as are
-// wanted, and returns where they begin. It halves them, and each step moves by a product, so that
-// the compiler makes no branch on a comparison, which would be foreseen wrongly each second time.
+// Narrows the search for `key` from the `width` keys from `base` on to `few` of them, and returns
+// the index of the first of these. Each step halves the keys and moves by a product, so that the
+// compiler emits no branch on a comparison, which would be mispredicted half of the time.
 #[inline(always)]
 fn halved<K: Ord>(
     keys: &[K],
@@ -118,7 +119,7 @@ fn halved<K: Ord>(
     first
 }
 
-// Finds `key` where its place is among the `width` keys from `base` on.
+// Finds `key` if its index is among the `width` keys from `base` on.
 #[inline(always)]
 fn search_among<K: Ord>(
     keys: &[K],
@@ -145,8 +146,8 @@ fn search_among<K: Ord>(
     }
 }
 
-// The same as `search_among`, but both of the last two keys are compared at once, so that one
-// comparison fewer is waited for. There is no branch on either of them.
+// Finds `key` as `search_among` does, but compares both of the last two keys at once, so that the
+// search waits for one comparison fewer. No branch depends on either comparison.
 #[inline(always)]
 fn search_beside<K: Ord>(
     keys: &[K],
@@ -176,8 +177,8 @@ fn search_beside<K: Ord>(
     }
 }
 
-// Finds `key` among so many keys, or up to twice as many: in the first ones or in the last, which
-// may have some in common. So each step's width is known when the search is compiled.
+// Finds `key` among `width` to twice `width` keys: in the first `width` keys or in the last `width`
+// keys, which may overlap. So the width of each step is known at compile time.
 #[inline(always)]
 fn search_ends<K: Ord>(
     keys: &[K],
@@ -198,9 +199,9 @@ fn search_ends<K: Ord>(
     search_among(keys, key, usize::from(is_past) * rest, width, compares)
 }
 
-// Finds `key` among 16 keys or more: in the first 32 of them or the last, and of those in the first
-// 16 or the last, which may have some in common. So each later step's width is known when the
-// search is compiled, and nothing branches on how many keys there are.
+// Finds `key` among 16 keys or more: in the first 32 of them or the last 32, and of those in the
+// first 16 or the last 16, which may overlap. So the width of each later step is known at compile
+// time, and no branch depends on the number of keys.
 #[inline(always)]
 fn search_many<K: Ord>(keys: &[K], key: &K, compares: &mut Compares) -> Result<usize, usize>
     requires { (16 ≤ length keys.now) × (length keys.now ≤ 64) }
@@ -217,7 +218,7 @@ fn search_many<K: Ord>(keys: &[K], key: &K, compares: &mut Compares) -> Result<u
     search_later(keys, key, usize::from(is_past) * rest, step, compares)
 }
 
-// Finds `key` where its place is among 16 keys and `step` more from `base` on.
+// Finds `key` if its index is among the `step + 16` keys from `base` on.
 #[inline(always)]
 fn search_later<K: Ord>(
     keys: &[K],
@@ -239,7 +240,8 @@ fn search_later<K: Ord>(
     search_among(keys, key, base + usize::from(is_past) * step, 16, compares)
 }
 
-// Finds `key` among few keys. It is not inlined, so that the search in a node with more of them is.
+// Finds `key` among fewer than 16 keys. This function is not inlined, so that the search in a node
+// with more keys is.
 #[inline(never)]
 fn search_few<K: Ord>(keys: &[K], key: &K, compares: &mut Compares) -> Result<usize, usize>
     requires few { length keys.now < 16 }
@@ -263,8 +265,8 @@ fn search_few<K: Ord>(keys: &[K], key: &K, compares: &mut Compares) -> Result<us
     }
 }
 
-// The same as `search_later`, but the step branches, and each way goes on by itself: so the next
-// key can be fetched before the comparison is done.
+// Finds `key` as `search_later` does, but the step branches and each branch continues by itself, so
+// that the next key can be fetched before the comparison is done.
 #[inline(always)]
 fn search_by_branch<K: Ord>(
     keys: &[K],
@@ -289,7 +291,7 @@ fn search_by_branch<K: Ord>(
     }
 }
 
-// Finds `key` among keys that likely stand in no cache of the processor, with two branches first.
+// Finds `key` among keys that are expected in no cache of the processor, with two branches first.
 #[inline(never)]
 fn search_far<K: Ord>(keys: &[K], key: &K, compares: &mut Compares) -> Result<usize, usize>
     requires few { length keys.now ≤ 64 }
@@ -312,9 +314,9 @@ fn search_far<K: Ord>(keys: &[K], key: &K, compares: &mut Compares) -> Result<us
     }
 }
 
-// Finds `key` among the first `end` keys, behind which all are greater. Each step leaves the key
-// out that it looked at, and an equal one ends the search. So it makes the fewest comparisons, for
-// keys that are long or point elsewhere.
+// Finds `key` among the first `end` keys, after which all keys are greater. Each step excludes the
+// key that it compared, and an equal key ends the search. So the search makes the fewest
+// comparisons, which matters for keys that are long or point elsewhere.
 #[inline(never)]
 fn search_halves<K: Ord>(
     keys: &[K],
@@ -343,7 +345,7 @@ fn search_halves<K: Ord>(
     Err(low)
 }
 
-// Finds `key` among keys all of which are likely smaller: the last one is compared first.
+// Finds `key` among keys that are all expected to be smaller: the last key is compared first.
 #[inline(never)]
 fn search_from_end<K: Ord>(keys: &[K], key: &K, compares: &mut Compares) -> Result<usize, usize>
     requires few { length keys.now ≤ 64 }
@@ -365,7 +367,8 @@ fn search_from_end<K: Ord>(keys: &[K], key: &K, compares: &mut Compares) -> Resu
     }
 }
 
-/// The place of `key` among ascending `keys`, or how many are smaller.
+/// Finds `key` among ascending `keys`: returns `Ok` of its index, or `Err` of the number of smaller
+/// keys.
 #[inline(always)]
 pub fn locate_counted<K: Ord>(keys: &[K], key: &K, compares: &mut Compares) -> Result<usize, usize>
     requires { length keys.now ≤ 64 }
@@ -385,8 +388,8 @@ pub fn locate_counted<K: Ord>(keys: &[K], key: &K, compares: &mut Compares) -> R
     }
 }
 
-/// Finds the index of `key` among the ascending keys of a leaf, or how many are smaller, in the
-/// way that a hint chooses.
+/// Finds `key` among the ascending keys of a leaf in the manner that `hint` selects: returns `Ok`
+/// of its index, or `Err` of the number of smaller keys.
 #[inline(always)]
 pub fn locate_hinted_counted<K: Ord>(
     keys: &[K],
@@ -409,8 +412,8 @@ pub fn locate_hinted_counted<K: Ord>(
     }
 }
 
-// How many of ascending `keys` are not greater than `key`, where that is one of the `width` numbers
-// from `base` on.
+// Returns how many of ascending `keys` are not greater than `key`, if that is one of the `width`
+// numbers from `base` on.
 #[inline(always)]
 fn count_among<K: Ord>(
     keys: &[K],
@@ -438,8 +441,8 @@ fn count_among<K: Ord>(
     first
 }
 
-// How many of many ascending `keys` are not greater than `key`. The last one is compared first, so
-// a key behind all others needs no further comparison.
+// Returns how many of more than 16 ascending `keys` are not greater than `key`. The last key is
+// compared first, so a key that is greater than all of them needs no further comparison.
 #[inline(always)]
 fn count_upto_many<K: Ord>(keys: &[K], key: &K, compares: &mut Compares) -> usize
     requires { (16 < length keys.now) × (length keys.now ≤ 64) }
@@ -458,8 +461,8 @@ fn count_upto_many<K: Ord>(keys: &[K], key: &K, compares: &mut Compares) -> usiz
     count_later(keys, key, usize::from(is_past) * rest, step, compares)
 }
 
-// How many of ascending `keys` are not greater than `key`, where that is one of 16 numbers and
-// `step` more from `base` on.
+// Returns how many of ascending `keys` are not greater than `key`, if that is one of the
+// `step + 16` numbers from `base` on.
 #[inline(always)]
 fn count_later<K: Ord>(
     keys: &[K],
@@ -480,7 +483,8 @@ fn count_later<K: Ord>(
     count_among(keys, key, base + usize::from(is_past) * step, 16, compares)
 }
 
-// How many of few `keys` are not greater than `key`. No comparison waits for another one.
+// Returns how many of at most seven ascending `keys` are not greater than `key`. No comparison
+// waits for another one.
 #[inline(always)]
 fn count_upto_few<K: Ord>(keys: &[K], key: &K, compares: &mut Compares) -> usize
     requires { length keys.now ≤ 7 }
@@ -498,7 +502,7 @@ fn count_upto_few<K: Ord>(keys: &[K], key: &K, compares: &mut Compares) -> usize
     upto
 }
 
-/// How many of ascending `keys` are not greater than `key`.
+/// Returns how many of ascending `keys` are not greater than `key`.
 #[inline(always)]
 pub fn count_upto_counted<K: Ord>(keys: &[K], key: &K, compares: &mut Compares) -> usize
     requires { length keys.now ≤ 64 }

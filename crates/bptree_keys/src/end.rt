@@ -12,7 +12,7 @@ pub enum End {
 }
 
 impl End {
-    /// Whether this is the end with the last item.
+    /// Returns whether this is the end with the last item.
     ///
     /// O(1). It allocates nothing and cannot fail.
     pub fn is_back(self) -> bool
@@ -28,14 +28,14 @@ impl End {
 /// A side of an item, in the order of a list.
 #[derive(Clone, Copy, Debug, PartialEq, Eq)]
 pub enum Side {
-    /// The side of the items before it.
+    /// The side of the items before the item.
     Before,
-    /// The side of the items after it.
+    /// The side of the items after the item.
     After,
 }
 
 impl Side {
-    /// Whether this is the side of the items after it.
+    /// Returns whether this is the side of the items after the item.
     pub fn is_after(self) -> bool
         ensures { result ≡ is_after self }
     {

@@ -8,7 +8,7 @@ use std::marker::Model;
 /// The greatest number of inner nodes on a path.
 pub const PATH_CAPACITY: usize = 15;
 
-/// The inner nodes on a path: each with the place and the number of the child that the path takes.
+/// The inner nodes on a path, each with the child index and the id of the next node on the path.
 #[derive(Drop)]
 pub struct VisitStack {
     entries: ArrayVec<(InnerNodeId, usize, NodeId), { PATH_CAPACITY }>,
@@ -25,7 +25,7 @@ impl Model for VisitStack {
 }
 
 impl VisitStack {
-    /// A path with no entry.
+    /// Creates an empty path.
     pub fn new() -> Self
         ensures { result ≡ [] }
     {
@@ -34,7 +34,7 @@ impl VisitStack {
         }
     }
 
-    /// The number of entries.
+    /// Returns the number of inner nodes on the path.
     pub fn len(&self) -> usize
         ensures value { result ≡ length self.now }
         ensures fits { result ≤ 15 }
@@ -42,14 +42,14 @@ impl VisitStack {
         self.entries.len()
     }
 
-    /// Whether there is no entry.
+    /// Returns whether the path is empty.
     pub fn is_empty(&self) -> bool
         ensures { result ≡ (length self.now == 0) }
     {
         self.entries.is_empty()
     }
 
-    /// Puts an inner node at the end of the path. There must be room.
+    /// Appends an inner node to the path, which must have fewer than `PATH_CAPACITY` inner nodes.
     pub fn push(&mut self, id: InnerNodeId, offset: usize, child: NodeId)
         requires { length self.old < 15 }
         ensures { self.new ≡ self.old ++ (id, offset, child) ∷ [] }
@@ -57,14 +57,14 @@ impl VisitStack {
         self.entries.push((id, offset, child));
     }
 
-    /// Takes all inner nodes off the path.
+    /// Removes all inner nodes from the path.
     pub fn clear(&mut self)
         ensures { self.new ≡ [] }
     {
         self.entries.clear();
     }
 
-    /// The last inner node of the path, if there is one.
+    /// Returns the last inner node of the path, or `None` if the path is empty.
     #[tactic(auto, using(crate::proofs::Paths::last_behind))]
     pub fn last(&self) -> Option<(InnerNodeId, usize, NodeId)>
         ensures value { result ≡ slice_get self.now (length self.now - 1) }
@@ -73,7 +73,8 @@ impl VisitStack {
         self.entries.last().copied()
     }
 
-    /// Takes the last inner node off the path, if there is one.
+    /// Removes the last inner node from the path and returns it, or returns `None` if the path is
+    /// empty.
     pub fn pop(&mut self) -> Option<(InnerNodeId, usize, NodeId)>
         ensures variant { IsSome result ↔ (0 < length self.old) }
         ensures some { IfSome result (λ entry. self.old ≡ self.new ++ entry ∷ []) }
@@ -88,27 +89,27 @@ impl VisitStack {
 pub struct EntryRef<TR> {
     /// The tree.
     pub tree: TR,
-    /// The inner nodes on the way to the leaf.
+    /// The inner nodes on the path to the leaf.
     pub inner_stack: VisitStack,
     /// The leaf.
     pub leaf_id: LeafNodeId,
-    /// The place of the entry in the leaf.
+    /// The slot of the entry in the leaf.
     pub offset: usize,
 }
 
 /// An entry of a leaf, without its tree.
 #[derive(Drop)]
 pub struct EntryRefDetached {
-    /// The inner nodes on the way to the leaf.
+    /// The inner nodes on the path to the leaf.
     pub inner_stack: VisitStack,
     /// The leaf.
     pub leaf_id: LeafNodeId,
-    /// The place of the entry in the leaf.
+    /// The slot of the entry in the leaf.
     pub offset: usize,
 }
 
 impl<TR> EntryRef<TR> {
-    /// An entry of a leaf, at an offset in it, with the path to it and its tree.
+    /// Creates an entry from its tree, the path to its leaf, the leaf, and its slot in the leaf.
     pub fn new(tree: TR, inner_stack: VisitStack, leaf_id: LeafNodeId, offset: usize) -> Self
         ensures { result ≡ record { tree = tree; inner_stack = inner_stack; leaf_id = leaf_id; offset = offset } }
     {
@@ -122,7 +123,7 @@ impl<TR> EntryRef<TR> {
 }
 
 impl<TR: Drop> EntryRef<TR> {
-    /// The same entry, without its tree.
+    /// Returns the entry without its tree.
     pub fn to_detached(self) -> EntryRefDetached
         ensures { result ≡ record { inner_stack = self.inner_stack; leaf_id = self.leaf_id; offset = self.offset } }
     {
@@ -141,7 +142,7 @@ impl<TR: Drop> EntryRef<TR> {
 }
 
 impl EntryRefDetached {
-    /// The same entry, in `tree`.
+    /// Returns the entry as one of `tree`.
     pub fn to_ref<TR>(self, tree: TR) -> EntryRef<TR>
         ensures { result ≡ record { tree = tree; inner_stack = self.inner_stack; leaf_id = self.leaf_id; offset = self.offset } }
     {

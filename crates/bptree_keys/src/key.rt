@@ -1,4 +1,4 @@
-//! The law of the keys of a tree, and the keys of the library.
+//! The trait of a tree's keys, and its implementations for types of the standard library.
 
 ghost use Rattle.std.specs.Prelude.{◌≡◌, string_bytes, IsTrue};
 ghost use Rattle.std.specs.declared.cmp.Ordering.{Ordering};
@@ -7,9 +7,9 @@ ghost use Rattle.std.proofs.Common.{rules};
 ghost use Rattle.std.proofs.lemmas.Cmp.{nat_list_cmp_total};
 ghost use Rattle.bptree_keys.specs.Keys.{equal_if_same, then_equal, AllInfallible};
 
-/// A type whose values are put in order, and whose clones are equal to their originals.
+/// A type whose values are ordered, and whose clones are equal to their originals.
 pub trait Key: Clone + Ord {
-    /// Whether no clone of a key fails. The default is `false`, which is always allowed.
+    /// Returns `true` only if no clone of a key fails. The default, `false`, is always allowed.
     ///
     /// O(1). It allocates nothing and cannot fail.
     fn clones_never_fail() -> bool
@@ -145,7 +145,7 @@ impl<A: Key, B: Key> Key for (A, B) {
     ghost clone_is_equal = { λ x y is. then_equal (A.clone_is_equal x.0 y.0 is.0) (B.clone_is_equal x.1 y.1 is.1) };
 }
 
-/// The first of a pair.
+/// A wrapper of one value: the first of a pair.
 #[derive(Clone, PartialEq, Eq, PartialOrd, Ord, Debug, Drop)]
 pub struct Tuple2<T>(pub T);
 

@@ -1,5 +1,5 @@
-//! The keys and the numbers of a B+ tree, searches of a node's keys, and the list of pairs that a
-//! tree is.
+//! Keys and node ids of a B+ tree, searches of a node's keys, and the contents of a tree as a list
+//! of pairs.
 #![tactic(auto)]
 
 pub mod compares;

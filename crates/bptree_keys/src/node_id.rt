@@ -1,4 +1,4 @@
-//! The numbers of nodes in a store.
+//! Ids of the nodes of a store.
 ghost use Rattle.std.specs.Prelude.{◌≡◌, ◌-◌, ◌^◌, ◌↔◌, Some, IsSome, IsTrue};
 ghost use Rattle.std.specs.Ordering.{nat_cmp};
 ghost use Rattle.std.specs.declared.cmp.Ordering.TheVariants.{Equal};
@@ -10,22 +10,22 @@ ghost use Rattle.bptree_keys.specs.Numbers.{leaf_number, inner_number, node_orde
 
 use std::cmp::Ordering;
 
-/// The number of an inner node.
+/// The id of an inner node.
 #[derive(Clone, Copy, PartialEq, Eq, PartialOrd, Ord, Debug)]
 pub struct InnerNodeId(usize);
 
-/// The number of a leaf.
+/// The id of a leaf.
 #[derive(Clone, Copy, PartialEq, Eq, PartialOrd, Ord, Debug)]
 pub struct LeafNodeId(usize);
 
-/// The number of a node of either kind. Every inner node stands before every leaf.
+/// The id of a node of either kind. The id of every inner node is less than the id of every leaf.
 #[derive(Clone, Copy, PartialEq, Eq, PartialOrd, Ord, Debug)]
 pub enum NodeId {
     Inner(InnerNodeId),
     Leaf(LeafNodeId),
 }
 
-/// A slot of a leaf: of a pair, or the one behind the last pair.
+/// A leaf and a slot in it: the slot of a pair, or the slot after the last pair.
 #[derive(Clone, Copy, Debug, Drop)]
 pub struct Position {
     /// The leaf.
@@ -35,10 +35,10 @@ pub struct Position {
 }
 
 impl InnerNodeId {
-    /// A placeholder, which names no node.
+    /// A placeholder, which is the id of no node.
     pub const INVALID: InnerNodeId = InnerNodeId(usize::MAX);
 
-    /// The inner node under a number.
+    /// Creates the id of an inner node from its `usize`.
     ///
     /// O(1). It allocates nothing and cannot fail.
     pub fn from_usize(number: usize) -> Self
@@ -47,7 +47,7 @@ impl InnerNodeId {
         InnerNodeId(number)
     }
 
-    /// The number itself.
+    /// Returns the id as a `usize`.
     ///
     /// O(1). It allocates nothing and cannot fail.
     pub fn as_usize(self) -> usize
@@ -58,7 +58,7 @@ impl InnerNodeId {
 }
 
 impl LeafNodeId {
-    /// The leaf under a number.
+    /// Creates the id of a leaf from its `usize`.
     ///
     /// O(1). It allocates nothing and cannot fail.
     pub fn from_usize(number: usize) -> Self
@@ -67,7 +67,7 @@ impl LeafNodeId {
         LeafNodeId(number)
     }
 
-    /// The number itself.
+    /// Returns the id as a `usize`.
     ///
     /// O(1). It allocates nothing and cannot fail.
     pub fn as_usize(self) -> usize
@@ -78,7 +78,7 @@ impl LeafNodeId {
 }
 
 impl NodeId {
-    /// The number, where it is a leaf's.
+    /// Returns the id of the leaf, or `None` if the node is an inner node.
     ///
     /// O(1). It allocates nothing and cannot fail.
     pub fn leaf_id(self) -> Option<LeafNodeId>
@@ -90,7 +90,7 @@ impl NodeId {
         }
     }
 
-    /// The number, where it is an inner node's.
+    /// Returns the id of the inner node, or `None` if the node is a leaf.
     ///
     /// O(1). It allocates nothing and cannot fail.
     pub fn inner_id(self) -> Option<InnerNodeId>
@@ -102,7 +102,7 @@ impl NodeId {
         }
     }
 
-    /// The number of a leaf, which this must be.
+    /// Returns the id of the leaf. The node must be a leaf.
     ///
     /// O(1). It allocates nothing and cannot fail.
     pub fn leaf_id_unchecked(self) -> LeafNodeId
@@ -115,7 +115,7 @@ impl NodeId {
         }
     }
 
-    /// The number of an inner node, which this must be.
+    /// Returns the id of the inner node. The node must be an inner node.
     ///
     /// O(1). It allocates nothing and cannot fail.
     pub fn inner_id_unchecked(self) -> InnerNodeId
@@ -129,8 +129,8 @@ impl NodeId {
     }
 }
 
-/// How two numbers are ordered. The clauses speak of every comparison of numbers, those of one kind
-/// too.
+/// Compares two node ids. The clauses state the result of every comparison of ids, also of two ids
+/// of one kind.
 pub fn order_of(a: NodeId, b: NodeId) -> Ordering
     ensures value { result ≡ node_order a b }
     ensures equal { (result ≡ Equal) ↔ (a ≡ b) }

@@ -1,4 +1,4 @@
--- What an inner node becomes that is cut.
+-- The two nodes after a split of an inner node.
 use Rattle.std.proofs.Common.{◌≡◌, ℕ, ◌+◌, ◌-◌, ◌<◌, ◌≤◌, zero, suc, List, [], ◌∷◌, ◌++◌, length, take, drop, refl, sym, ap, ◌∙◌, arith, Some}
 use Rattle.std.specs.List.{insert, slice_get}
 use Rattle.std.proofs.lemmas.List.{take-append-drop, take-take}
@@ -12,21 +12,21 @@ module _ {X : Type 0} where
   slice_get-drop (suc n) [] i = refl
   slice_get-drop (suc n) (x ∷ xs) i = slice_get-drop n xs i ∙ (let e : suc (n + i) ≡ suc n + i = omega arith in ap (slice_get (x ∷ xs)) e)
 
-  -- a list, cut round one of its elements
+  -- a list is the elements before one of its elements, this element, and the elements after it
   pub around_element : (xs : List X) (n m : ℕ) (x : X) → slice_get xs n ≡ Some x → m ≡ n + 1 → take n xs ++ x ∷ drop m xs ≡ xs
   around_element [] n m x h e = cc
   around_element (y ∷ xs) zero m x h e = let one : m ≡ suc zero = omega arith in rw one (cc)
   around_element (y ∷ xs) (suc n) zero x h e = absurd (omega arith)
   around_element (y ∷ xs) (suc n) (suc m) x h e = ap (λ zs. y ∷ zs) (around_element xs n m x h (omega arith))
 
-  -- the last of the first m elements, and those before it
+  -- the last of the first m elements, and the elements before it
   pub last_taken : (xs cut left : List X) (m len : ℕ) (x : X) → 0 < m → cut ≡ take m xs → len ≡ m → slice_get cut (len - 1) ≡ Some x → left ≡ take (len - 1) cut → (slice_get xs (m - 1) ≡ Some x) × (left ≡ take (m - 1) xs)
   last_taken xs cut left m len x some kept same value items = (
     sym (slice_get-take m xs (m - 1) (omega arith)) ∙ rw (kept, same) at value,
     items ∙ rw (kept, same) (take-take (m - 1) m xs (omega arith)),
   )
 
-  -- the elements of a list with a new one
+  -- the elements of a list with a new element
   pub at_new : (xs : List X) (i : ℕ) (x : X) → i ≤ length xs → slice_get (insert xs i x) i ≡ Some x
   at_new xs zero x h = refl
   at_new [] (suc i) x h = absurd (omega arith)
@@ -44,7 +44,7 @@ module _ {X : Type 0} where
   behind_new (y ∷ xs) (suc i) zero x l h = absurd (omega arith)
   behind_new (y ∷ xs) (suc i) (suc k) x l h = behind_new xs i k x (omega arith) (omega arith)
 
-  -- the new element in the part before the cut, and in the part behind it
+  -- the new element in the part before the split point, and in the part after it
   new_in_left : (xs : List X) (i n : ℕ) (x : X) → i < n → i ≤ length xs → slice_get (take n (insert xs i x)) i ≡ Some x
   new_in_left xs i n x l h = slice_get-take n (insert xs i x) i l ∙ at_new xs i x h
 
@@ -81,5 +81,5 @@ module _ {K A : Type 0} (slot : ℕ) (key : K) (child : NodeId) (argument : A) (
     );
   }
 
--- what the check tries at each goal of an inner node
+-- the lemmas that the checker tries at each goal of an inner node
 pub ruleset inner = (parts, around_element, take-append-drop)

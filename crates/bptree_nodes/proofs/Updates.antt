@@ -1,4 +1,4 @@
--- The values of a list of pairs are changed one after another, from one place up to another.
+-- Changes of the values of a list of pairs, one after another, from one index up to another.
 use Rattle.std.proofs.Common.{◌≡◌, ◌∙◌, ℕ, ◌+◌, ◌<◌, ◌≤◌, zero, suc, List, [], ◌∷◌, ◌++◌, Some, length, take, drop, refl, sym, ap, arith, append_assoc, append-nil}
 use Rattle.std.specs.Borrow.{Bor, MutBor}
 use Rattle.std.specs.Fn.{Mut}
@@ -10,11 +10,11 @@ use Rattle.bptree_nodes.specs.Updating.{ChangesInTurn, ChangesValue}
 use Rattle.bptree_nodes.proofs.Pairs.{slice_get-take}
 
 module _ {X : Type 0} where
-  -- the member at a place stands before those behind it
-  drop_at_place : (i : ℕ) (xs : List X) (x : X) → slice_get xs i ≡ Some x → drop i xs ≡ x ∷ drop (i + 1) xs
-  drop_at_place i [] x at = cc
-  drop_at_place zero (y ∷ xs) x at = let is : y ≡ x = cc in rw is refl
-  drop_at_place (suc i) (y ∷ xs) x at = let n : suc i + 1 ≡ suc (i + 1) = omega arith in rw n (drop_at_place i xs x at)
+  -- the members from an index on are the member at the index and those after it
+  drop_at_index : (i : ℕ) (xs : List X) (x : X) → slice_get xs i ≡ Some x → drop i xs ≡ x ∷ drop (i + 1) xs
+  drop_at_index i [] x at = cc
+  drop_at_index zero (y ∷ xs) x at = let is : y ≡ x = cc in rw is refl
+  drop_at_index (suc i) (y ∷ xs) x at = let n : suc i + 1 ≡ suc (i + 1) = omega arith in rw n (drop_at_index i xs x at)
 
   drop_all_taken : (n : ℕ) (xs : List X) → drop n (take n xs) ≡ []
   drop_all_taken zero xs = refl
@@ -33,7 +33,7 @@ module _ {K V : Type 0} where
   set_value_behind (q ∷ ps) p rest (suc i) w e = let s : i ≡ length ps = omega (arith, e) in ap (λ l. q ∷ l) (set_value_behind ps p rest i w s)
 
 module _ {F K V : Type 0} (calls : Mut F (Bor K × (MutBor V × Unit {0})) (Unit {0} × (MutBor V × Unit {0}))) (f : F) (old : List (K × V)) (from to : ℕ) where
-  -- the values below i are changed, and what is changed from there on goes on from them
+  -- the values before the index i are changed, and the changes from i on continue from there
   pub record ChangedUpTo (t : F) (i : ℕ) (now : List (K × V)) : Type 0 where
     pub done : List (K × V)
     pub is : now ≡ take from old ++ (done ++ drop i old)
@@ -53,8 +53,8 @@ module _ {F K V : Type 0} (calls : Mut F (Bor K × (MutBor V × Unit {0})) (Unit
         ap (λ l. slice_get l i) (sym (take-append-drop i old))
         ∙ (slice_get_behind (take i old) (drop i old) i (omega (arith, length-take-le i old (omega arith)))
         ∙ (sym (slice_get_behind first (drop i old) i long) ∙ (ap (λ l. slice_get l i) (sym is) ∙ at))) in
-        let cut : drop i old ≡ (k, v) ∷ drop (i + 1) old = drop_at_place i old (k, v) there in
-        let taken : drop i (take to old) ≡ (k, v) ∷ drop (i + 1) (take to old) = drop_at_place i (take to old) (k, v) (slice_get-take to old i h ∙ there) in
+        let cut : drop i old ≡ (k, v) ∷ drop (i + 1) old = drop_at_index i old (k, v) there in
+        let taken : drop i (take to old) ≡ (k, v) ∷ drop (i + 1) (take to old) = drop_at_index i (take to old) (k, v) (slice_get-take to old i h ∙ there) in
         record {
           done = up.done ++ (k, w) ∷ [];
           is = ap (λ l. set_value_at l i w) (is ∙ ap (λ l. first ++ l) cut)
@@ -73,13 +73,13 @@ module _ {F K V : Type 0} (calls : Mut F (Bor K × (MutBor V × Unit {0})) (Unit
       (up.done, rw (append-nil up.done) at goes, up.is ∙ sym (append_assoc (take from old) up.done (drop to old)))
 
 module _ {F K V : Type 0} (calls : Mut F (Bor K × (MutBor V × Unit {0})) (Unit {0} × (MutBor V × Unit {0}))) where
-  -- the keys stay
+  -- the changes keep the keys
   pub changed_keys : (f : F) (old : List (K × V)) (after : F) (new : List (K × V)) → ChangesInTurn calls f old after new → keys_of new ≡ keys_of old
   changed_keys f [] after new changes = rw changes.1 refl
   changed_keys f (p ∷ old) after new (g, q, rest, call, changes, is) =
       ap keys_of is ∙ (ap (λ pair. pair.0 ∷ keys_of rest) call.leaves ∙ ap (λ keys. p.0 ∷ keys) (changed_keys g old after rest changes))
 
-  -- the changes of two lists, one after the other
+  -- the changes of two lists, one after the other, are the changes of their concatenation
   pub changed_joined : (f g h : F) (old more new newer : List (K × V)) → ChangesInTurn calls f old g new → ChangesInTurn calls g more h newer → ChangesInTurn calls f (old ++ more) h (new ++ newer)
   changed_joined f g h [] more new newer first then' = rw first.1 (rw first.0 at then')
   changed_joined f g h (p ∷ old) more new newer (t, q, rest, call, changes, is) then' =

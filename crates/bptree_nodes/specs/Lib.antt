@@ -1,7 +1,7 @@
 pub mod Clones
 pub mod Inner
 pub mod Leaf
-pub mod LeafLends
+pub mod LeafBorrows
 pub mod LeafResults
 pub mod Slot
 pub mod Taken

@@ -1,4 +1,4 @@
-//! The pairs of a leaf that was taken apart.
+//! The pairs of a leaf that is consumed pair by pair.
 ghost use Rattle.std.specs.Prelude.{◌≡◌, length, []};
 ghost use Rattle.std.specs.List.{zip};
 ghost use Rattle.std.specs.Map.Iter.{TakesFirst, TakesLast};
@@ -8,7 +8,7 @@ use std::marker::Model;
 use std::vec;
 
 /// The pairs that are left of a leaf, in the order of their keys. A step from either end moves no
-/// other pair and allocates nothing. What is left is dropped with it.
+/// other pair and allocates nothing. A drop of the iterator drops the pairs that are left.
 #[derive(Drop)]
 pub struct LeafPairs<K, V> {
     keys: vec::IntoIter<K>,
@@ -28,7 +28,7 @@ impl<K, V> Model for LeafPairs<K, V> {
 }
 
 impl<K: Drop, V: Drop> LeafPairs<K, V> {
-    /// No pairs. It allocates nothing.
+    /// Creates an iterator over no pairs. It allocates nothing.
     pub fn new(alloc: Global) -> Self
         ensures { result ≡ [] }
     {
@@ -48,7 +48,7 @@ impl<K: Drop, V: Drop> LeafPairs<K, V> {
         }
     }
 
-    /// The first pair that is left.
+    /// Removes and returns the first pair that is left.
     pub fn next(&mut self) -> Option<(K, V)>
         ensures { TakesFirst (λ pair. pair) self.old result self.new }
     {
@@ -58,7 +58,7 @@ impl<K: Drop, V: Drop> LeafPairs<K, V> {
         }
     }
 
-    /// The last pair that is left.
+    /// Removes and returns the last pair that is left.
     pub fn next_back(&mut self) -> Option<(K, V)>
         ensures { TakesLast (λ pair. pair) self.old result self.new }
     {

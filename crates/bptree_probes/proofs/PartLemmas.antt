@@ -1,4 +1,4 @@
--- Lemmas: the pairs from a key on, and the pairs up to a key, by the number of smaller keys.
+-- The pairs from a key on, and the pairs up to a key, by the number of smaller keys.
 use Rattle.std.proofs.Common.{◌≡◌, ◌+◌, ◌≤◌, ℕ, true, false, not, ◌&&◌, List, [], ◌∷◌, ◌++◌, Some, None, length, length-append, take, drop, refl, sym, ap, ◌∙◌, arith, append_assoc, append-nil}
 use Rattle.std.specs.declared.cmp.Ordering.{Ordering}
 use Rattle.std.specs.declared.cmp.Ordering.TheVariants.{Less, Greater}
@@ -9,12 +9,12 @@ use Rattle.std.proofs.Math.Seq.{take-append_seam, drop-append_seam}
 use Rattle.std.proofs.lemmas.List.Elements.{filter-append}
 use Rattle.bptree_arguments.specs.CountLaws.{count_below}
 use Rattle.bptree_keys.specs.Contents.{IsAscending, has, pairs_above, pairs_below}
-use Rattle.bptree_keys.specs.Places.{IsGap, IsHit}
+use Rattle.bptree_keys.specs.Indexes.{IsKeyGap, IsHit}
 use Rattle.bptree_keys.specs.Ranges.{between}
 use Rattle.bptree_keys.proofs.Ascending.{gap_if_absent}
 use Rattle.bptree_keys.proofs.Laws.{found_if_there, hit_if_there}
 use Rattle.bptree_keys.proofs.Parted.{filter_all, filter_none, pairs_below_hit}
-use Rattle.bptree_probes.proofs.PlaceLemmas.{count_is}
+use Rattle.bptree_probes.proofs.IndexLemmas.{count_is}
 use Rattle.bptree_probes.specs.Parts.{up_to}
 
 module _ {K V : Type 0} (cmp : K → K → Ordering) (l before after : List (K × V)) (k : K) where
@@ -39,7 +39,7 @@ module _ {K V : Type 0} (cmp : K → K → Ordering) (l before after : List (K �
         let long : length before + 1 ≡ length front = sym (length-append before (pair ∷ [])) in
         ap (λ n. take n l) long ∙ (ap (take (length front)) parts ∙ take-append_seam front after)
 
-  module _ (gap : IsGap cmp l before after k) where
+  module _ (gap : IsKeyGap cmp l before after k) where
     from_gap : between cmp l (Some k) None ≡ after
     from_gap =
         rw (gap.parts, filter-append, filter_none cmp k (λ o. not (is_lt o) && true) Less before refl gap.smaller)
@@ -70,17 +70,17 @@ module _ {K V : Type 0} {cmp : K → K → Ordering} (total : IsTotalOrder cmp) 
     hit : IsHit cmp l before pair after k
     hit = hit_if_there cmp total l ascending k there
 
-    place : i ≡ length before
-    place = is ∙ (count_is cmp k l ∙ ap length (pairs_below_hit cmp l before pair after k hit))
+    index : i ≡ length before
+    index = is ∙ (count_is cmp k l ∙ ap length (pairs_below_hit cmp l before pair after k hit))
 
     pub from_there : drop i l ≡ between cmp l (Some k) None
-    from_there = ap (λ n. drop n l) place ∙ (drop_hit cmp l before after k pair hit ∙ sym (from_hit cmp l before after k pair hit))
+    from_there = ap (λ n. drop n l) index ∙ (drop_hit cmp l before after k pair hit ∙ sym (from_hit cmp l before after k pair hit))
 
     pub up_to_there : take (i + 1) l ≡ up_to cmp l k
-    up_to_there = ap (λ n. take (n + 1) l) place ∙ (take_hit cmp l before after k pair hit ∙ sym (up_to_hit cmp l before after k pair hit))
+    up_to_there = ap (λ n. take (n + 1) l) index ∙ (take_hit cmp l before after k pair hit ∙ sym (up_to_hit cmp l before after k pair hit))
 
   module _ (absent : has cmp l k ≡ false) where
-    gap : IsGap cmp l (pairs_below cmp l k) (pairs_above cmp l k) k
+    gap : IsKeyGap cmp l (pairs_below cmp l k) (pairs_above cmp l k) k
     gap = gap_if_absent cmp total l k ascending absent
 
     spot : i ≡ length (pairs_below cmp l k)

@@ -1,16 +1,16 @@
 //! Look-ups that leave the store's cache alone: they neither read nor set the leaf that a store
-//! remembers, and so write nothing.
+//! caches, and so write nothing.
 ghost use Rattle.std.specs.Prelude.{◌≡◌};
 ghost use Rattle.std.specs.Option.{option_copied};
 ghost use Rattle.bptree_keys.specs.Contents.{has, value};
-ghost use Rattle.bptree_shape.specs.Shape.{IsWellShaped, value_in};
+ghost use Rattle.bptree_invariant.specs.Shape.{IsWellShaped, value_in};
 
 use bptree_arguments::argument::Argument;
+use bptree_invariant::descent::find_leaf;
 use bptree_keys::compares::{Compares, SearchHint};
 use bptree_keys::key::Key;
 use bptree_keys::node_id::NodeId;
-use bptree_maps::map::BPlusTreeMap;
-use bptree_shape::descent::find_leaf;
+use bptree_map::map::BPlusTreeMap;
 use bptree_stores::node_stores::NodeStore;
 
 // The value at a key, in the tree of a store. O(log n): one descent.
@@ -30,8 +30,9 @@ fn value_at<'a, S: NodeStore>(
     value
 }
 
-/// The value at a key. O(log n): one descent, also for a key beside the last one. It does not
-/// allocate.
+/// The value at a key, or `None`.
+///
+/// O(log n): one descent, also for a key beside the last one. It allocates nothing and cannot fail.
 pub fn get_uncached<'a, K: Key, V: Drop, A: Argument<K>>(
     map: &'a BPlusTreeMap<K, V, A>,
     key: &K,
@@ -42,7 +43,9 @@ pub fn get_uncached<'a, K: Key, V: Drop, A: Argument<K>>(
     value_at(tree.node_store(), tree.root_id(), tree.height(), key)
 }
 
-/// Whether a key is there. It costs what `get_uncached` does.
+/// Whether a key is present.
+///
+/// O(log n), as `get_uncached`. It allocates nothing and cannot fail.
 pub fn has_uncached<K: Key, V: Drop, A: Argument<K>>(map: &BPlusTreeMap<K, V, A>, key: &K) -> bool
     ensures { result ≡ has K.cmp map.now key.now }
 {

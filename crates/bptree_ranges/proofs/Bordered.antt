@@ -1,4 +1,5 @@
--- The leaf in which those keys end that pass a test, where no key passes it that is above one that doesn't.
+-- The leaf in which the keys end that pass a test, if no key passes it that is above one that
+-- doesn't.
 use Rattle.std.proofs.Common.{◌≡◌, ℕ, zero, suc, ◌+◌, ◌-◌, ◌<◌, ◌≤◌, Bool, true, false, not, ◌&&◌, List, [], ◌∷◌, ◌++◌, length, map, filter, take, drop, refl, sym, ap, subst, ◌∙◌, arith, Option, Some, slice_get, length-append}
 use mathlib.Core.Bool.{true≢false}
 use Rattle.std.specs.declared.cmp.Ordering.{Ordering}
@@ -11,7 +12,7 @@ use Rattle.std.proofs.lemmas.List.Elements.{filter-append}
 use Rattle.std.specs.List.Sorted.{IsStrictlySortedBy}
 use Rattle.std.proofs.lemmas.Map.Entries.{length-keys_of}
 use Rattle.std.proofs.lemmas.Map.Keys.{sorted_head, sorted_tail}
-use Rattle.bptree_arguments.specs.GroupAnswers.{IsBorderOf, IsGroupBorder, is_before}
+use Rattle.bptree_arguments.specs.GroupResults.{IsBorderOf, IsGroupBorder, is_before}
 use Rattle.bptree_arguments.specs.Groups.{of_group}
 use Rattle.bptree_arguments.proofs.GroupOrderLemmas.{before_below}
 use Rattle.bptree_nodes.specs.Inner.{Inner}
@@ -25,18 +26,19 @@ use Rattle.bptree_keys.specs.declared.node_id.NodeId.{NodeId}
 use Rattle.bptree_keys.specs.declared.node_id.NodeId.TheVariants as kind
 use Rattle.bptree_keys.proofs.Ascending.{all_pairs, less_turned}
 use Rattle.bptree_keys.proofs.PieceLemmas.{AllByRecursion-append, AllByRecursion-weaker}
-use Rattle.bptree_shape.specs.Leaves.{pairs_of, Stands, StandsIn, IsBorderLeaf}
-use Rattle.bptree_shape.specs.Order.{flat, Within, Chain}
-use Rattle.bptree_ranges.specs.Ranges.{start, IsPlaceOn}
-use Rattle.bptree_shape.specs.Shape.{leaf_pairs, pairs_at, leaves_at, IsTree, IsWellShaped}
-use Rattle.bptree_shape.proofs.Between.{Falls, cut, none_pass}
-use Rattle.bptree_shape.proofs.Down.{inner_at, node_children, pairs_of_all, stands_above}
-use Rattle.bptree_shape.proofs.Ordered.{by_cases, not_less_back}
+use Rattle.bptree_invariant.specs.Leaves.{pairs_of, IsStored, IsLeafOf, IsBorderLeaf}
+use Rattle.bptree_invariant.specs.Order.{flat, Within, Chain}
+use Rattle.bptree_ranges.specs.Ranges.{start, IsIndexOn}
+use Rattle.bptree_invariant.specs.Shape.{leaf_pairs, pairs_at, leaves_at, IsTree, IsWellShaped}
+use Rattle.bptree_invariant.proofs.Between.{Falls, cut, none_pass}
+use Rattle.bptree_invariant.proofs.Down.{inner_at, node_children, pairs_of_all, is_stored_above}
+use Rattle.bptree_invariant.proofs.Ordered.{by_cases, not_less_back}
 use Rattle.bptree_ranges.proofs.Ranged.{contents_ascend, filter_fewer, size_of, start_is}
-use Rattle.bptree_shape.proofs.Spot.{leaf_ascends, parts_of_read}
-use Rattle.bptree_shape.proofs.Walk.{flat-append, chain_inside, tree_inside}
+use Rattle.bptree_invariant.proofs.Spot.{leaf_ascends, parts_of_read}
+use Rattle.bptree_invariant.proofs.Walk.{flat-append, chain_inside, tree_inside}
 
--- the first of the members that a function makes, and those from one on
+-- a property of the first n results of a function, or of the later ones, is one of the members they
+-- come from
 module _ {X Y : Type 0} (P : Y → Type 0) (f : X → Y) where
   first_made : (n : ℕ) (xs : List X) → AllByRecursion P (take n (map f xs)) → AllByRecursion (λ x. P (f x)) (take n xs)
   first_made zero xs all = tt
@@ -59,7 +61,7 @@ pub every_pass : {X : Type 0} (test : X → Bool) (l : List X) → AllByRecursio
 every_pass test [] all = refl
 every_pass test (x ∷ l) all = rw all.0 (ap (λ more. x ∷ more) (every_pass test l all.1))
 
--- where the first n keys pass and no others do, n pairs pass
+-- if the first n keys pass and no others do, n pairs pass
 count_of_first : {K V : Type 0} (test : K → Bool) (l : List (K × V)) (n : ℕ) → n ≤ length l → AllByRecursion (λ k. test k ≡ true) (take n (keys_of l)) → AllByRecursion (λ k. test k ≡ false) (drop n (keys_of l)) → length (filter (λ (p : K × V). test p.0) l) ≡ n
 count_of_first test [] n within pass fail = omega (arith, within)
 count_of_first test (p ∷ l) zero within pass fail = rw fail.0 (count_of_first test l zero (omega arith) tt fail.1)
@@ -88,7 +90,8 @@ module _ {K : Type 0} {cmp : K → K → Ordering} (total : IsTotalOrder cmp) (t
   )
 
   module _ {C V : Type 0} (f : C → List (K × V)) (P : C → Option K → Option K → Type 0) (inside : (c : C) (lo hi : Option K) → P c lo hi → AllByRecursion (λ p. Within cmp lo hi p.0) (f c)) where
-    -- where the first i separators pass and no others do, so do the keys of the children before child i, and none behind it
+    -- if the first i separators pass and no others do, the keys of the children before child i
+    -- pass, and no key of a child after it does
     pub chain_passes : (ks : List K) (cs : List C) (lo hi : Option K) (i : ℕ) → Chain cmp P ks cs lo hi → i ≤ length ks → AllByRecursion (λ k. test k ≡ true) (take i ks) → AllByRecursion (λ (p : K × V). test p.0 ≡ true) (flat f (take i cs))
     chain_passes ks [] lo hi i h within all = absurd h
     chain_passes [] (c ∷ []) lo hi zero h within all = tt
@@ -110,7 +113,7 @@ module _ {K : Type 0} {cmp : K → K → Ordering} (total : IsTotalOrder cmp) (t
     chain_fails (s ∷ ss) (c ∷ cs) lo hi (suc i) h within all = chain_fails ss cs (Some s) hi i h.2 (omega (arith, within)) all
 
   module _ {V A : Type 0} (slots : Slots (Inner K A) (Leaf K V)) where
-    -- the border below the child behind the separators that pass is the border below the node
+    -- the border below the child after the separators that pass is the border below the node
     border_above : (h : ℕ) (id : InnerNodeId) (node : Inner K A) (e : slots.inner id.0 ≡ Present node) (lo hi : Option K) (i : ℕ) (child : NodeId) (leaf : LeafNodeId) → Chain cmp (IsTree cmp slots 16 h) node.keys node.children lo hi → i ≤ length node.keys → i < length node.children
         → AllByRecursion (λ k. test k ≡ true) (take i node.keys) → AllByRecursion (λ k. test k ≡ false) (drop i node.keys) → slice_get node.children i ≡ Some child → IsBorderLeaf slots test h child leaf → IsBorderLeaf slots test (suc h) (kind.Inner id) leaf
     border_above h id node e lo hi i child leaf chain few within pass fail read below =
@@ -118,19 +121,19 @@ module _ {K : Type 0} {cmp : K → K → Ordering} (total : IsTotalOrder cmp) (t
         let left = flat (leaves_at slots h) (take i node.children) in
         let right = flat (leaves_at slots h) (drop (suc i) node.children) in
         record {
-          stands = stands_above slots h id node e i child leaf within read below.stands;
+          stored = is_stored_above slots h id node e i child leaf within read below.stored;
           before =
-              rw (flat-append (λ (l : LeafNodeId). leaf_pairs (slots.leaf l.0)) left below.stands.before, pairs_of_all slots h (take i node.children))
-              (AllByRecursion-append (λ (p : K × V). test p.0 ≡ true) (flat (pairs_at slots h) (take i node.children)) (pairs_of slots below.stands.before)
+              rw (flat-append (λ (l : LeafNodeId). leaf_pairs (slots.leaf l.0)) left below.stored.before, pairs_of_all slots h (take i node.children))
+              (AllByRecursion-append (λ (p : K × V). test p.0 ≡ true) (flat (pairs_at slots h) (take i node.children)) (pairs_of slots below.stored.before)
               (chain_passes (pairs_at slots h) (IsTree cmp slots 16 h) inside node.keys node.children lo hi i chain few pass) below.before);
           behind =
-              rw (flat-append (λ (l : LeafNodeId). leaf_pairs (slots.leaf l.0)) below.stands.after right, pairs_of_all slots h (drop (suc i) node.children))
-              (AllByRecursion-append (λ (p : K × V). test p.0 ≡ false) (pairs_of slots below.stands.after) (flat (pairs_at slots h) (drop (suc i) node.children))
+              rw (flat-append (λ (l : LeafNodeId). leaf_pairs (slots.leaf l.0)) below.stored.after right, pairs_of_all slots h (drop (suc i) node.children))
+              (AllByRecursion-append (λ (p : K × V). test p.0 ≡ false) (pairs_of slots below.stored.after) (flat (pairs_at slots h) (drop (suc i) node.children))
               below.behind (chain_fails (pairs_at slots h) (IsTree cmp slots 16 h) inside node.keys node.children lo hi i chain few fail));
         }
 
-    -- the same at a height that the code knows
-    pub border_node : (h : ℕ) (id : InnerNodeId) (node : Inner K A) (i : ℕ) (child : NodeId) → Stands cmp slots h (kind.Inner id) → slots.inner id.0 ≡ Present node → IsCut test node.keys i → slice_get node.children i ≡ Some child → (leaf : LeafNodeId) → IsBorderLeaf slots test (h - 1) child leaf → IsBorderLeaf slots test h (kind.Inner id) leaf
+    -- the border below a child is the border below its node, at a height that the code knows
+    pub border_node : (h : ℕ) (id : InnerNodeId) (node : Inner K A) (i : ℕ) (child : NodeId) → IsStored cmp slots h (kind.Inner id) → slots.inner id.0 ≡ Present node → IsCut test node.keys i → slice_get node.children i ≡ Some child → (leaf : LeafNodeId) → IsBorderLeaf slots test (h - 1) child leaf → IsBorderLeaf slots test h (kind.Inner id) leaf
     border_node h id node i child s e parts read leaf below =
         let at = inner_at total slots h id node s e in
         let down : h - 1 ≡ at.below = let up = at.above in omega arith in
@@ -139,15 +142,16 @@ module _ {K : Type 0} {cmp : K → K → Ordering} (total : IsTotalOrder cmp) (t
         (border_above at.below id node e at.low at.high i child leaf at.chain parts.within (omega (arith, long, parts.within)) parts.pass parts.fail read (subst (λ m. IsBorderLeaf slots test m child leaf) down below))
 
     -- a leaf is the border of its tree
-    pub border_leaf : (h : ℕ) (id : LeafNodeId) → Stands cmp slots h (kind.Leaf id) → IsBorderLeaf slots test h (kind.Leaf id) id
-    border_leaf zero id s = record { stands = record { before = []; after = []; leaves = refl; present = s.tree.0 }; before = tt; behind = tt }
+    pub border_leaf : (h : ℕ) (id : LeafNodeId) → IsStored cmp slots h (kind.Leaf id) → IsBorderLeaf slots test h (kind.Leaf id) id
+    border_leaf zero id s = record { stored = record { before = []; after = []; leaves = refl; present = s.tree.0 }; before = tt; behind = tt }
     border_leaf (suc h) id s = absurd s.tree
 
-    -- the place in it behind the keys that pass
-    pub border_place : (is_summary : A → List K → Type 0) (h : ℕ) (root : NodeId) (shape : IsWellShaped cmp is_summary slots h root) (leaf : LeafNodeId) (node : Leaf K V) → IsBorderLeaf slots test h root leaf → slots.leaf leaf.0 ≡ Present node
-        → (n : ℕ) → IsCut test (keys_of node.pairs) n → IsPlaceOn slots h root leaf n × (start slots h root leaf + n ≡ length (filter (λ (p : K × V). test p.0) (pairs_at slots h root)))
-    border_place is_summary h root shape leaf node border here n parts =
-        let in' = border.stands in
+    -- the slot after the keys that pass in the border leaf is a position of the tree, after all
+    -- pairs that pass
+    pub border_index : (is_summary : A → List K → Type 0) (h : ℕ) (root : NodeId) (shape : IsWellShaped cmp is_summary slots h root) (leaf : LeafNodeId) (node : Leaf K V) → IsBorderLeaf slots test h root leaf → slots.leaf leaf.0 ≡ Present node
+        → (n : ℕ) → IsCut test (keys_of node.pairs) n → IsIndexOn slots h root leaf n × (start slots h root leaf + n ≡ length (filter (λ (p : K × V). test p.0) (pairs_at slots h root)))
+    border_index is_summary h root shape leaf node border here n parts =
+        let in' = border.stored in
         let before = pairs_of slots in'.before in
         let after = pairs_of slots in'.after in
         let t = λ (p : K × V). test p.0 in
@@ -156,12 +160,12 @@ module _ {K : Type 0} {cmp : K → K → Ordering} (total : IsTotalOrder cmp) (t
         let other : filter t after ≡ [] = none_pass t after border.behind in
         let cut' : filter t (pairs_at slots h root) ≡ before ++ (filter t node.pairs ++ []) =
         ap (filter t) (parts_of_read slots h root leaf in' node here) ∙ (filter-append t before (node.pairs ++ after) ∙ (ap (λ l. l ++ filter t (node.pairs ++ after)) one ∙ ap (λ l. before ++ l) (filter-append t node.pairs after ∙ ap (λ l. filter t node.pairs ++ l) other))) in (
-          record { stands = in'; within = omega (arith, parts.within, length-keys_of node.pairs, size_of is_summary slots h root shape leaf node here) },
+          record { stored = in'; within = omega (arith, parts.within, length-keys_of node.pairs, size_of is_summary slots h root shape leaf node here) },
           omega (arith, start_is is_summary slots h root shape leaf in', ap length cut', length-append before (filter t node.pairs ++ []), length-append (filter t node.pairs) [], here'),
         )
 
 module _ {K G : Type 0} {cmp : K → K → Ordering} {R : G → G → Ordering} (total : IsTotalOrder cmp) (o : IsTotalOrder R) (group_of : K → G) (keeps : (x y : K) → is_gt (cmp x y) ≡ false → is_gt (R (group_of x) (group_of y)) ≡ false) (g : G) where
-  -- whether a key is before the end of the group, or else before its beginning
+  -- whether a key is before the end of the group, or else before its start
   abbrev pub is_key_before : Bool → K → Bool
   is_key_before end k = is_before end (R (group_of k) g)
 
@@ -173,14 +177,14 @@ module _ {K G : Type 0} {cmp : K → K → Ordering} {R : G → G → Ordering} 
   eq_parts Equal = refl
   eq_parts Greater = refl
 
-  -- the pairs of a group stand from its beginning to its end
+  -- the pairs of a group are those from its start to its end
   pub of_group_is : {V : Type 0} (l : List (K × V)) (i j : ℕ) → IsAscending cmp l → i ≡ length (filter (λ (p : K × V). is_before false (R (group_of p.0) g)) l) → j ≡ length (filter (λ (p : K × V). is_before true (R (group_of p.0) g)) l) → of_group R group_of g l ≡ part l i (j - i)
   of_group_is {V} l i j ascending e f =
       let one = λ (p : K × V). is_key_before false p.0 in
       let other = λ (p : K × V). is_key_before true p.0 in
       rw (e, f) (ap (λ t. filter t l) (λ i p. eq_parts (R (group_of p.0) g) i) ∙ cut one other l (falls_all total (is_key_before false) (key_falls false) l ascending) (falls_all total (is_key_before true) (key_falls true) l ascending))
 
-  -- the border that a search finds among keys
+  -- the border that a search finds among ascending keys divides them by the test
   pub border_cut : (end : Bool) (keys given : List K) (n : ℕ) → given ≡ keys → IsStrictlySortedBy cmp keys → n ≤ length given → IsGroupBorder cmp R group_of g end given n → IsCut (is_key_before end) keys n
   border_cut end keys given n is sorted few found =
       let border : IsBorderOf R g end (map group_of keys) n = (rw is at found) sorted in
@@ -190,8 +194,8 @@ module _ {K G : Type 0} {cmp : K → K → Ordering} {R : G → G → Ordering} 
         fail = made_from (λ x. is_before end (R x g) ≡ false) group_of n keys border.from_there;
       }
 
-  -- and among those of a leaf of a tree
-  pub leaf_cut : {V A : Type 0} (is_summary : A → List K → Type 0) (slots : Slots (Inner K A) (Leaf K V)) (h : ℕ) (root : NodeId) → IsWellShaped cmp is_summary slots h root → (leaf : LeafNodeId) (node : Leaf K V) → StandsIn slots h root leaf → slots.leaf leaf.0 ≡ Present node
+  -- the border that a search finds among the keys of a leaf of a tree divides them by the test
+  pub leaf_cut : {V A : Type 0} (is_summary : A → List K → Type 0) (slots : Slots (Inner K A) (Leaf K V)) (h : ℕ) (root : NodeId) → IsWellShaped cmp is_summary slots h root → (leaf : LeafNodeId) (node : Leaf K V) → IsLeafOf slots h root leaf → slots.leaf leaf.0 ≡ Present node
       → (end : Bool) (given : List K) (n : ℕ) → given ≡ keys_of node.pairs → n ≤ length given → IsGroupBorder cmp R group_of g end given n → IsCut (is_key_before end) (keys_of node.pairs) n
   leaf_cut is_summary slots h root shape leaf node in' e end given n is few found =
       border_cut end (keys_of node.pairs) given n is (leaf_ascends total slots h root leaf node in' (contents_ascend is_summary slots h root shape total) e) few found

@@ -1,7 +1,7 @@
 pub mod Bordered
 pub mod Bounded
 pub mod Counts
-pub mod GroupPlaces
+pub mod GroupIndexes
 pub mod Passing
 pub mod Ranged
 pub mod Runs

@@ -11,9 +11,9 @@ use Rattle.bptree_keys.specs.Contents.{IsAscending, pairs_below}
 use Rattle.bptree_keys.specs.Ranges.{between}
 use Rattle.bptree_ranges.specs.Summaries.{IsPartSummary}
 use Rattle.bptree_ranges.proofs.Sums.{smaller_of, keys_of_take, keys_of_drop}
-use Rattle.bptree_shape.proofs.Between.{between_is, all_below}
-use Rattle.bptree_shape.proofs.ListReads.{read_some}
-use Rattle.bptree_descents.specs.ByArgument.{IsSelected}
+use Rattle.bptree_invariant.proofs.Between.{between_is, all_below}
+use Rattle.bptree_invariant.proofs.ListReads.{read_some}
+use Rattle.bptree_search.specs.ByArgument.{IsSelected}
 
 module _ {K V Q : Type 0} (selects : Q → List K → Option ℕ → Type 0) (query : Q) (l : List (K × V)) where
   selected_none : IsSelected selects query l None → selects query (keys_of l) None
@@ -25,17 +25,17 @@ module _ {K V Q : Type 0} (selects : Q → List K → Option ℕ → Type 0) (qu
   selected_some p (Some i, within, selected, e) = (i, rw (length-map l (λ (p : K × V). p.0)) within, selected, sym e)
 
 module _ {K V : Type 0} {cmp : K → K → Ordering} (total : IsTotalOrder cmp) (alike : (k : K) → cmp k k ≡ Equal) (l : List (K × V)) (ascending : IsAscending cmp l) where
-  place_is : (i : ℕ) (p : K × V) → slice_get l i ≡ Some p → i ≡ length (pairs_below cmp l p.0)
-  place_is i p read = smaller_of total p.0 l (Ok i) i refl ascending (rw read (alike p.0))
+  index_is : (i : ℕ) (p : K × V) → slice_get l i ≡ Some p → i ≡ length (pairs_below cmp l p.0)
+  index_is i p read = smaller_of total p.0 l (Ok i) i refl ascending (rw read (alike p.0))
 
   range_keys : (i j : ℕ) (p q : K × V) → slice_get l i ≡ Some p → slice_get l j ≡ Some q → keys_of (between cmp l (Some p.0) (Some q.0)) ≡ slice_range (keys_of l) i j
   range_keys i j p q read read' =
-      ap keys_of (between_is total l (Some p.0) (Some q.0) i j ascending (place_is i p read) (place_is j q read')) ∙ (keys_of_take (j - i) (drop i l) ∙ ap (take (j - i)) (keys_of_drop i l))
+      ap keys_of (between_is total l (Some p.0) (Some q.0) i j ascending (index_is i p read) (index_is j q read')) ∙ (keys_of_take (j - i) (drop i l) ∙ ap (take (j - i)) (keys_of_drop i l))
 
   tail_keys : (i : ℕ) (p : K × V) → slice_get l i ≡ Some p → keys_of (between cmp l (Some p.0) None) ≡ drop i (keys_of l)
   tail_keys i p read =
       let n = length l in
-      ap keys_of (between_is total l (Some p.0) None i n ascending (place_is i p read) (sym (all_below cmp None l refl)) ∙ between_to_end l i n (omega arith)) ∙ keys_of_drop i l
+      ap keys_of (between_is total l (Some p.0) None i n ascending (index_is i p read) (sym (all_below cmp None l refl)) ∙ between_to_end l i n (omega arith)) ∙ keys_of_drop i l
 
   module _ {A Q : Type 0} (is_summary : A → List K → Type 0) (selects : Q → List K → Option ℕ → Type 0) (from to : Q) (a : A) where
     pub no_part : IsSelected selects from l None → is_summary a [] → IsPartSummary is_summary selects from to (keys_of l) a

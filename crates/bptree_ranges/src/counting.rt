@@ -1,21 +1,22 @@
-//! How many keys stand between two ends, in a tree of counts.
+//! The number of keys between two ends, in a tree of counts.
 ghost use Rattle.std.specs.Prelude.{◌≡◌, length};
 ghost use Rattle.bptree_arguments.specs.CountLaws.{CountsKeys};
-ghost use Rattle.bptree_shape.specs.Shape.{pairs_at};
-ghost use Rattle.bptree_descents.specs.ByArgument.{IsSubtree};
+ghost use Rattle.bptree_invariant.specs.Shape.{pairs_at};
+ghost use Rattle.bptree_search.specs.ByArgument.{IsSubtree};
 ghost use Rattle.bptree_ranges.specs.Counting.{CountsBelow, CountsShort, CountsSmaller};
 ghost use Rattle.bptree_ranges.specs.InTree.{HasAsManyBetween, HasCounts};
 
 use crate::summaries::slot_of;
 use bptree_arguments::count::{Count, total_of};
+use bptree_invariant::nodes::Nodes;
 use bptree_keys::node_id::NodeId;
-use bptree_shape::nodes::Nodes;
 use bptree_stores::node_stores::NodeStore;
 
-/// How many keys are not below `lo` and are below `hi`, if they are given.
+/// Returns how many keys are not below `lo` and are below `hi`, if they are given.
 ///
-/// One descent for each end that is given, of O(height) steps. On each level it adds up the counts
-/// of the children before the one for the end. It allocates nothing and cannot fail.
+/// It makes one descent of O(height) steps for each end that is given. On each level it adds up the
+/// counts of the children before the one that the end leads to. It allocates nothing and cannot
+/// fail.
 pub fn len_between<S: NodeStore<Argument = Count>>(
     tree: &Nodes<S>,
     lo: Option<&S::K>,
@@ -30,7 +31,7 @@ pub fn len_between<S: NodeStore<Argument = Count>>(
     to.saturating_sub(from)
 }
 
-// How many keys are below `lo`, where it is given.
+// Returns how many keys are below `lo`, or 0 if it is not given.
 fn count_before<S: NodeStore<Argument = Count>>(
     store: &S,
     root: NodeId,
@@ -46,7 +47,7 @@ fn count_before<S: NodeStore<Argument = Count>>(
     }
 }
 
-// How many keys are below `hi`: if it is not given, all `len`.
+// Returns how many keys are below `hi`, or all `len` if it is not given.
 fn count_upto<S: NodeStore<Argument = Count>>(
     store: &S,
     root: NodeId,
@@ -64,7 +65,7 @@ fn count_upto<S: NodeStore<Argument = Count>>(
     }
 }
 
-// How many keys below a node are smaller.
+// Returns how many keys below a node are smaller than `key`.
 fn count_smaller<S: NodeStore<Argument = Count>>(
     store: &S,
     id: NodeId,
@@ -78,9 +79,9 @@ fn count_smaller<S: NodeStore<Argument = Count>>(
         NodeId::Leaf(leaf) => slot_of(store.get_leaf(leaf), key),
         NodeId::Inner(inner) => {
             let node = store.get_inner(inner);
-            let (place, child) = node.locate_child(key);
+            let (index, child) = node.locate_child(key);
             let smaller = count_smaller(store, child, height - 1, key);
-            total_of(smaller, &node.arguments()[..place])
+            total_of(smaller, &node.arguments()[..index])
         }
     }
 }

@@ -4,6 +4,6 @@
 pub mod bounds;
 pub mod counting;
 pub mod groups;
-mod places;
+mod indexes;
 pub mod ranges;
 pub mod summaries;

@@ -4,27 +4,27 @@ ghost use Rattle.std.specs.Map.{keys_of};
 ghost use Rattle.std.specs.declared.cmp.Ordering.TheVariants.{Less};
 ghost use Rattle.bptree_keys.specs.Ranges.{between};
 ghost use Rattle.bptree_ranges.specs.Summaries.{SumsUpBeside, SumsUpBoth, SumsUpRange, SumsUpSome, SumsUpBetween, SumsUpSomeBetween, SumsUpSomeIn};
-ghost use Rattle.bptree_shape.specs.Shape.{pairs_at};
-ghost use Rattle.bptree_descents.specs.ByArgument.{IsSubtree};
+ghost use Rattle.bptree_invariant.specs.Shape.{pairs_at};
+ghost use Rattle.bptree_search.specs.ByArgument.{IsSubtree};
 ghost use Rattle.bptree_ranges.specs.Counting.{CountsBelowIn, CountsShortIn, CountsSmallerIn};
 
 use bptree_arguments::argument::Argument;
-use bptree_descents::neighbours::slot_beside;
+use bptree_invariant::nodes::Nodes;
 use bptree_keys::end::Side;
 use bptree_keys::key::Key;
 use bptree_keys::node_id::NodeId;
 use bptree_nodes::leaf_node::LeafNode;
-use bptree_shape::nodes::Nodes;
+use bptree_search::neighbours::slot_beside;
 use bptree_stores::node_stores::NodeStore;
 use std::alloc::{AllocError, Global};
 use std::cmp::Ordering;
 
-/// A summary of the keys that are not below `lo` and are below `hi`, if they are given.
+/// Returns a summary of the keys that are not below `lo` and are below `hi`, if they are given.
 ///
-/// One descent to the node where the ways to both ends part, and from there one for each end. On
-/// each level the summaries of the children between the two ways are summed up, and at last the
-/// keys of one leaf for each end. It fails only where the argument does, or where room for two
-/// summaries is refused.
+/// It makes one descent to the node at which the paths to both ends part, and from there one for
+/// each end. On each level it sums up the summaries of the children between the two paths, and in
+/// the last step the keys of one leaf for each end. It fails only if the argument does, or if an
+/// allocation of room for two summaries fails.
 pub fn summary_between<S: NodeStore>(
     tree: &Nodes<S>,
     lo: Option<&S::K>,
@@ -39,7 +39,8 @@ pub fn summary_between<S: NodeStore>(
     }
 }
 
-// The same where there is such a key, and none if there is none.
+// Returns a summary of the keys that are not below `lo` and are below `hi`, if they are given, or
+// `None` if there is no such key.
 fn some_between<S: NodeStore>(
     store: &S,
     root: NodeId,
@@ -61,7 +62,7 @@ fn some_between<S: NodeStore>(
     }
 }
 
-// The keys below a node.
+// Returns a summary of the keys below a node, or `None` if there are no keys.
 fn summary_of_all<S: NodeStore>(
     store: &S,
     id: NodeId,
@@ -79,7 +80,8 @@ fn summary_of_all<S: NodeStore>(
     }
 }
 
-// The keys below a node on one side of a key. An equal key is on the side `After`.
+// Returns a summary of the keys below a node on one side of a key, or `None` if there are no such
+// keys. An equal key is on the side `After`.
 fn summary_beside<S: NodeStore>(
     store: &S,
     id: NodeId,
@@ -100,16 +102,16 @@ fn summary_beside<S: NodeStore>(
         }
         NodeId::Inner(inner) => {
             let node = store.get_inner(inner);
-            let (place, child) = node.locate_child(key);
+            let (index, child) = node.locate_child(key);
             let part = summary_beside(store, child, height - 1, key, side)?;
             let arguments = node.arguments();
             match side {
                 Side::Before => {
-                    let front = sum_of_some(arguments, 0, place)?;
+                    let front = sum_of_some(arguments, 0, index)?;
                     sum_of_both(store.allocator(), front, part)
                 }
                 Side::After => {
-                    let back = sum_of_some(arguments, place + 1, arguments.len())?;
+                    let back = sum_of_some(arguments, index + 1, arguments.len())?;
                     sum_of_both(store.allocator(), part, back)
                 }
             }
@@ -117,7 +119,8 @@ fn summary_beside<S: NodeStore>(
     }
 }
 
-// The keys below a node that are not below `lo` and are below `hi`.
+// Returns a summary of the keys below a node that are not below `lo` and are below `hi`, or `None`
+// if there are no such keys.
 fn summary_within<S: NodeStore>(
     store: &S,
     id: NodeId,
@@ -147,7 +150,8 @@ fn summary_within<S: NodeStore>(
     }
 }
 
-// The keys of a leaf that are not below `lo` and are below `hi`, if they are given.
+// Returns a summary of the keys of a leaf that are not below `lo` and are below `hi`, if they are
+// given, or `None` if there are no such keys.
 fn summary_in_leaf<'a, K: Key, V: Drop, A: Argument<K>>(
     leaf: &'a LeafNode<K, V>,
     lo: Option<&'a K>,
@@ -163,7 +167,7 @@ fn summary_in_leaf<'a, K: Key, V: Drop, A: Argument<K>>(
     Ok(Some(A::from_leaf(&leaf.keys()[from..to])?))
 }
 
-// How many keys of a leaf are below `lo`, where it is given.
+// Returns how many keys of a leaf are below `lo`, or 0 if it is not given.
 fn start_in<K: Key, V: Drop>(leaf: &LeafNode<K, V>, lo: Option<&K>) -> usize
     ensures within { result ≤ length leaf.now.pairs }
     ensures short { CountsShortIn K.cmp leaf.now lo.entry result }
@@ -174,7 +178,7 @@ fn start_in<K: Key, V: Drop>(leaf: &LeafNode<K, V>, lo: Option<&K>) -> usize
     }
 }
 
-// How many keys of a leaf are below `hi`: if it is not given, all.
+// Returns how many keys of a leaf are below `hi`, or all if it is not given.
 fn end_in<K: Key, V: Drop>(leaf: &LeafNode<K, V>, hi: Option<&K>) -> usize
     ensures within { result ≤ length leaf.now.pairs }
     ensures below { CountsBelowIn K.cmp leaf.now hi.entry result }
@@ -185,7 +189,7 @@ fn end_in<K: Key, V: Drop>(leaf: &LeafNode<K, V>, hi: Option<&K>) -> usize
     }
 }
 
-// How many keys of a leaf are smaller.
+// Returns how many keys of a leaf are smaller than `key`.
 pub(crate) fn slot_of<K: Key, V: Drop>(leaf: &LeafNode<K, V>, key: &K) -> usize
     ensures within { result ≤ length leaf.now.pairs }
     ensures smaller { CountsSmallerIn K.cmp leaf.now key.now result }
@@ -193,10 +197,10 @@ pub(crate) fn slot_of<K: Key, V: Drop>(leaf: &LeafNode<K, V>, key: &K) -> usize
     slot_beside(leaf.locate_slot(key), Side::Before)
 }
 
-// A summary of all keys below the children of a node from one place to another, by the children's
-// summaries.
+// Returns a summary of all keys below the children of a node from index `from` up to `to`, computed
+// from the children's summaries, or `None` if there are no such children.
 //
-// The law of summaries holds whatever the separators are, so none are passed.
+// The law of summaries holds whatever the separators are, so the call passes no separators.
 fn sum_of_some<K: Key, A: Argument<K>>(
     arguments: &[A],
     from: usize,
@@ -211,8 +215,8 @@ fn sum_of_some<K: Key, A: Argument<K>>(
     Ok(Some(A::from_inner(&[], &arguments[from..to])?))
 }
 
-// A summary of two lists of keys, one before the other. Where both have a key, room for two
-// summaries is asked for.
+// Returns a summary of two lists of keys, one before the other, or `None` if both are empty. If
+// both have a key, it allocates room for two summaries.
 fn sum_of_both<K: Key, A: Argument<K>>(
     alloc: Global,
     first: Option<A>,

@@ -1,4 +1,5 @@
--- An edit by which a node underflowed is carried to its parent, where it rotates or merges with a sibling.
+-- An edit by which a node underflowed is propagated to its parent, and the node rotates or merges
+-- with a sibling.
 use Rattle.std.proofs.Common.{◌≡◌, ℕ, zero, suc, ◌+◌, ◌<◌, ◌≤◌, ◌^◌, ◌⊎◌, true, cond, List, [], ◌∷◌, ◌++◌, length, get_or, take, drop, refl, sym, ap, subst, ◌∙◌, arith, add-one, Option, Some, eqb, slice_get, length-append}
 use Rattle.std.specs.declared.cmp.Ordering.{Ordering}
 use Rattle.std.specs.Cmp.{IsTotalOrder}
@@ -12,22 +13,22 @@ use Rattle.bptree_nodes.specs.Slot.{Slot, Slots, Present}
 use Rattle.bptree_keys.specs.declared.node_id.InnerNodeId.{InnerNodeId}
 use Rattle.bptree_keys.specs.declared.node_id.NodeId.{NodeId}
 use Rattle.bptree_keys.specs.declared.node_id.NodeId.TheVariants as kind
-use Rattle.bptree_ascent.specs.Climb.{HeldAre, least_at, Climb, Climbs}
-use Rattle.bptree_shape.specs.Edit.{CanReach, Extends, Edits}
+use Rattle.bptree_propagation.specs.Climb.{HeldAre, least_at, Climb, EditBelow}
+use Rattle.bptree_invariant.specs.Edit.{CanReach, Extends, Edits}
 use Rattle.bptree_rebalancing.specs.Rebalance.{RebalancesPair}
-use Rattle.bptree_shape.specs.Order.{flat}
-use Rattle.bptree_shape.specs.Outcome.{Done, Split}
-use Rattle.bptree_shape.specs.Shape.{pairs_at, leaves_at, inner_count, stands, IsSummed, IsTree}
+use Rattle.bptree_invariant.specs.Order.{flat}
+use Rattle.bptree_invariant.specs.Outcome.{Done, Split}
+use Rattle.bptree_invariant.specs.Shape.{pairs_at, leaves_at, inner_count, stored, IsSummed, IsTree}
 use Rattle.bptree_rebalancing.specs.Transfer.{HasEntry}
-use Rattle.bptree_ascent.specs.Sums.{SumsUpAt, with_summary, with_split}
-use Rattle.bptree_rebalancing.specs.Trim.{ClimbsUnderflow}
-use Rattle.bptree_ascent.proofs.Climbing.{climb_on, told_up, last, can, summed_there, few_there, least_most, least_some}
-use Rattle.bptree_ascent.proofs.Lift.{links_moved}
+use Rattle.bptree_propagation.specs.Sums.{SumsUpAt, with_summary, with_split}
+use Rattle.bptree_rebalancing.specs.Trim.{UnderflowBelow}
+use Rattle.bptree_propagation.proofs.Climbing.{climb_on, reported_up, last, can, summed_there, few_there, least_most, least_some}
+use Rattle.bptree_propagation.proofs.Lift.{links_moved}
 use Rattle.bptree_rebalancing.proofs.Pair as pair
-use Rattle.bptree_rebalancing.proofs.Seated.{Seat, seat_of, seat_size, inner_high}
+use Rattle.bptree_rebalancing.proofs.Seated.{SubtreeAt, seat_of, seat_size, inner_high}
 use Rattle.bptree_rebalancing.proofs.Choosing.{inserted_is}
-use Rattle.bptree_shape.proofs.Ways.{LastStep}
-use Rattle.bptree_shape.proofs.Widen.{tree_less}
+use Rattle.bptree_invariant.proofs.Ways.{LastStep}
+use Rattle.bptree_invariant.proofs.Widen.{tree_less}
 
 read_before : {X : Type 0} (xs : List X) (i : ℕ) (y : X) → i < length xs → slice_get (insert xs (suc i) y) i ≡ slice_get xs i
 read_before [] i y below = absurd (omega arith)
@@ -35,7 +36,7 @@ read_before (x ∷ xs) zero y below = refl
 read_before (x ∷ xs) (suc i) y below = read_before xs i y (omega arith)
 
 module _ {K V A : Type 0} {cmp : K → K → Ordering} (total : IsTotalOrder cmp) (is_summary : A → List K → Type 0) (now after : Slots (Inner K A) (Leaf K V)) (path : List (InnerNodeId × ℕ × NodeId)) (nid : InnerNodeId) (a : A)
-    (c : ClimbsUnderflow cmp is_summary now path nid a) (rest : List (InnerNodeId × ℕ × NodeId)) (number : InnerNodeId) (i : ℕ) (child : NodeId) (e : path ≡ rest ++ (number, i, child) ∷ []) where
+    (c : UnderflowBelow cmp is_summary now path nid a) (rest : List (InnerNodeId × ℕ × NodeId)) (number : InnerNodeId) (i : ℕ) (child : NodeId) (e : path ≡ rest ++ (number, i, child) ∷ []) where
   abbrev pub step : LastStep cmp c.climb.old c.climb.k c.climb.top c.climb.root rest number i c.climb.height c.climb.id
   step = last total is_summary now path Done c.climb rest number i child e
 
@@ -51,25 +52,25 @@ module _ {K V A : Type 0} {cmp : K → K → Ordering} (total : IsTotalOrder cmp
   pub short : 15 ≤ c.climb.kept
   short = let h : least_at c.climb.top (rest ++ (number, i, child) ∷ []) ≤ c.climb.kept + 1 = subst (λ p. least_at c.climb.top p ≤ c.climb.kept + 1) e c.enough in omega (arith, h, least_some c.climb.top rest (number, i, child))
 
-  pub seat : Seat cmp c.climb.old c.climb.k (least_at c.climb.top rest) (suc c.climb.height) (kind.Inner number)
+  pub seat : SubtreeAt cmp c.climb.old c.climb.k (least_at c.climb.top rest) (suc c.climb.height) (kind.Inner number)
   seat = seat_of cmp c.climb.old c.climb.k rest c.climb.top c.climb.root (suc c.climb.height) (kind.Inner number) step.way c.climb.shape
 
   -- the node that may have underflowed is an inner one
   pub high : (m : ℕ) × (c.climb.height ≡ suc m)
-  high = inner_high cmp c.climb.old c.climb.k (least_at c.climb.top path) c.climb.height nid (subst (λ x. Seat cmp c.climb.old c.climb.k (least_at c.climb.top path) c.climb.height x) c.here (seat_of cmp c.climb.old c.climb.k path c.climb.top c.climb.root c.climb.height c.climb.id c.climb.way c.climb.shape))
+  high = inner_high cmp c.climb.old c.climb.k (least_at c.climb.top path) c.climb.height nid (subst (λ x. SubtreeAt cmp c.climb.old c.climb.k (least_at c.climb.top path) c.climb.height x) c.here (seat_of cmp c.climb.old c.climb.k path c.climb.top c.climb.root c.climb.height c.climb.id c.climb.way c.climb.shape))
 
-  -- what the parent is then told
-  pub told_above : (kept : ℕ) → Edits cmp is_summary c.climb.edit kept c.climb.old after (suc c.climb.height) (kind.Inner number) c.climb.k c.climb.leaf c.climb.turn Done → (above : A) → SumsUpAt cmp is_summary (after.inner number.0) above
+  -- the parent's new summary is one of its keys
+  pub reported_above : (kept : ℕ) → Edits cmp is_summary c.climb.edit kept c.climb.old after (suc c.climb.height) (kind.Inner number) c.climb.k c.climb.leaf c.climb.turn Done → (above : A) → SumsUpAt cmp is_summary (after.inner number.0) above
       → is_summary above (keys_of (pairs_at after (suc c.climb.height) (kind.Inner number)))
-  told_above kept edits above sums =
-      told_up total is_summary after 0 c.climb.height number at.low at.high above (edits.tree 0 at.low at.high (omega arith) (tree_less cmp c.climb.old at.least 0 (suc c.climb.height) (kind.Inner number) at.low at.high (omega arith) at.tree) at.fits)
+  reported_above kept edits above sums =
+      reported_up total is_summary after 0 c.climb.height number at.low at.high above (edits.tree 0 at.low at.high (omega arith) (tree_less cmp c.climb.old at.least 0 (suc c.climb.height) (kind.Inner number) at.low at.high (omega arith) at.tree) at.fits)
       (edits.summed summed) (subst (λ l. length l < 2 ^ 64) (sym edits.pairs) few) sums
 
   -- the two siblings, in a parent with an entry between them
   module _ (slot : ℕ) (left right : InnerNodeId) (bare : Inner K A) (given : NodeId) (s : K) (old_r : A) (entry' : HasEntry step.node bare slot s given old_r) (beside : (i ≡ slot) ⊎ (i ≡ suc slot))
       (read_left : slice_get step.node.children slot ≡ Some (kind.Inner left)) (read_right : slice_get step.node.children (slot + 1) ≡ Some (kind.Inner right)) where
     below : slot < length bare.children
-    below = omega (arith, entry'.place.within, entry'.place.children)
+    below = omega (arith, entry'.index.within, entry'.index.children)
 
     pub given_is : given ≡ kind.Inner right
     given_is =
@@ -83,21 +84,21 @@ module _ {K V A : Type 0} {cmp : K → K → Ordering} (total : IsTotalOrder cmp
         get_or_from_slice_get bare.children slot (kind.Inner left) c.climb.id
         (sym (read_before bare.children slot (kind.Inner right) below) ∙ (rw add-one at (ap (λ (n : Inner K A). slice_get n.children slot) (sym entry.is)) ∙ read_left))
 
-    own_at : (x : ℕ) → cond (eqb number.0 x) 1 0 + (inner_count now c.climb.height (kind.Inner left) x + inner_count now c.climb.height (kind.Inner right) x) ≤ stands (now.inner x)
+    own_at : (x : ℕ) → cond (eqb number.0 x) 1 0 + (inner_count now c.climb.height (kind.Inner left) x + inner_count now c.climb.height (kind.Inner right) x) ≤ stored (now.inner x)
     own_at x =
-        subst (λ l. cond (eqb number.0 x) 1 0 + (inner_count now c.climb.height l x + inner_count now c.climb.height (kind.Inner right) x) ≤ stands (now.inner x)) left_is
+        subst (λ l. cond (eqb number.0 x) 1 0 + (inner_count now c.climb.height l x + inner_count now c.climb.height (kind.Inner right) x) ≤ stored (now.inner x)) left_is
         (pair.pair_own total is_summary c.climb.edit c.climb.kept c.climb.old now after c.climb.height number c.climb.k step.node i c.climb.id c.climb.leaf c.climb.turn c.climb.local at step.is step.leads step.read short c.climb.edits bare slot s (kind.Inner right) old_r entry beside x)
 
-    pub own_high : (x : ℕ) → cond (eqb number.0 x) 1 0 + (inner_count now (suc high.0) (kind.Inner left) x + inner_count now (suc high.0) (kind.Inner right) x) ≤ stands (now.inner x)
-    own_high x = subst (λ n. cond (eqb number.0 x) 1 0 + (inner_count now n (kind.Inner left) x + inner_count now n (kind.Inner right) x) ≤ stands (now.inner x)) high.1 (own_at x)
+    pub own_high : (x : ℕ) → cond (eqb number.0 x) 1 0 + (inner_count now (suc high.0) (kind.Inner left) x + inner_count now (suc high.0) (kind.Inner right) x) ≤ stored (now.inner x)
+    own_high x = subst (λ n. cond (eqb number.0 x) 1 0 + (inner_count now n (kind.Inner left) x + inner_count now n (kind.Inner right) x) ≤ stored (now.inner x)) high.1 (own_at x)
 
-    told_high : (x : InnerNodeId) (lo hi : Option K) (b : A) → IsTree cmp after 16 c.climb.height (kind.Inner x) lo hi → IsSummed after is_summary c.climb.height (kind.Inner x) → length (pairs_at after c.climb.height (kind.Inner x)) < 2 ^ 64 → SumsUpAt cmp is_summary (after.inner x.0) b
+    reported_high : (x : InnerNodeId) (lo hi : Option K) (b : A) → IsTree cmp after 16 c.climb.height (kind.Inner x) lo hi → IsSummed after is_summary c.climb.height (kind.Inner x) → length (pairs_at after c.climb.height (kind.Inner x)) < 2 ^ 64 → SumsUpAt cmp is_summary (after.inner x.0) b
         → is_summary b (keys_of (pairs_at after c.climb.height (kind.Inner x)))
-    told_high x lo hi b tree ready short' sums =
+    reported_high x lo hi b tree ready short' sums =
         subst (λ n. is_summary b (keys_of (pairs_at after n (kind.Inner x)))) (sym high.1)
-        (told_up total is_summary after 16 high.0 x lo hi b (subst (λ n. IsTree cmp after 16 n (kind.Inner x) lo hi) high.1 tree) (subst (λ n. IsSummed after is_summary n (kind.Inner x)) high.1 ready) (subst (λ n. length (pairs_at after n (kind.Inner x)) < 2 ^ 64) high.1 short') sums)
+        (reported_up total is_summary after 16 high.0 x lo hi b (subst (λ n. IsTree cmp after 16 n (kind.Inner x) lo hi) high.1 tree) (subst (λ n. IsSummed after is_summary n (kind.Inner x)) high.1 ready) (subst (λ n. length (pairs_at after n (kind.Inner x)) < 2 ^ 64) high.1 short') sums)
 
-    -- the leaves stay, so their order and links do
+    -- the leaves keep their order and their links
     order_so : (cs : List NodeId) → flat (leaves_at after c.climb.height) cs ≡ flat (leaves_at now c.climb.height) step.node.children → Extends (flat (leaves_at c.climb.old c.climb.height) step.node.children) c.climb.leaf c.climb.turn (flat (leaves_at after c.climb.height) cs)
     order_so cs same =
         subst (Extends (flat (leaves_at c.climb.old c.climb.height) step.node.children) c.climb.leaf c.climb.turn) (sym same)
@@ -107,9 +108,9 @@ module _ {K V A : Type 0} {cmp : K → K → Ordering} (total : IsTotalOrder cmp
       leaf_at : (x : ℕ) → after.leaf x ≡ now.leaf x
       leaf_at x = ap (λ (f : ℕ → Slot (Leaf K V)). f x) leaf
 
-      -- summaries of what the two are then
-      pub told_merged : (both : A) → RebalancesPair cmp is_summary now after c.climb.height number.0 (kind.Inner left) s (kind.Inner right) Done → SumsUpAt cmp is_summary (after.inner left.0) both → is_summary both (keys_of (pairs_at after c.climb.height (kind.Inner left)))
-      told_merged both rebalances sums =
+      -- the new summaries of the two are those of their keys
+      pub reported_merged : (both : A) → RebalancesPair cmp is_summary now after c.climb.height number.0 (kind.Inner left) s (kind.Inner right) Done → SumsUpAt cmp is_summary (after.inner left.0) both → is_summary both (keys_of (pairs_at after c.climb.height (kind.Inner left)))
+      reported_merged both rebalances sums =
           let m : RebalancesPair cmp is_summary now after c.climb.height number.0 (get_or bare.children slot c.climb.id) s (kind.Inner right) Done = subst (λ l. RebalancesPair cmp is_summary now after c.climb.height number.0 l s (kind.Inner right) Done) (sym left_is) rebalances in
           let t = pair.pair_tree total is_summary c.climb.edit c.climb.kept c.climb.old now after c.climb.height number c.climb.k step.node i c.climb.id c.climb.leaf c.climb.turn c.climb.local at step.is step.leads step.read short c.climb.edits bare slot s (kind.Inner right) old_r entry beside Done m in
           let z = pair.pair_summed total is_summary c.climb.edit c.climb.kept c.climb.old now after c.climb.height number c.climb.k step.node i c.climb.id c.climb.leaf c.climb.turn c.climb.local at step.is step.leads step.read short c.climb.edits bare slot s (kind.Inner right) old_r entry beside Done m summed in
@@ -117,11 +118,11 @@ module _ {K V A : Type 0} {cmp : K → K → Ordering} (total : IsTotalOrder cmp
           let tree : IsTree cmp after 16 c.climb.height (kind.Inner left) t.0 t.1 = subst (λ l. IsTree cmp after 16 c.climb.height l t.0 t.1) left_is t.2 in
           let ready : IsSummed after is_summary c.climb.height (kind.Inner left) = subst (λ l. IsSummed after is_summary c.climb.height l) left_is z in
           let short' : length (pairs_at after c.climb.height (kind.Inner left)) < 2 ^ 64 = omega (arith, few, f, ap (λ l. length (pairs_at after c.climb.height l)) left_is) in
-          told_high left t.0 t.1 both tree ready short' sums
+          reported_high left t.0 t.1 both tree ready short' sums
 
-      pub told_rotated : (l r : A) (up : K) → RebalancesPair cmp is_summary now after c.climb.height number.0 (kind.Inner left) s (kind.Inner right) (Split up (kind.Inner right)) → SumsUpAt cmp is_summary (after.inner left.0) l → SumsUpAt cmp is_summary (after.inner right.0) r
+      pub reported_rotated : (l r : A) (up : K) → RebalancesPair cmp is_summary now after c.climb.height number.0 (kind.Inner left) s (kind.Inner right) (Split up (kind.Inner right)) → SumsUpAt cmp is_summary (after.inner left.0) l → SumsUpAt cmp is_summary (after.inner right.0) r
           → is_summary l (keys_of (pairs_at after c.climb.height (kind.Inner left))) × is_summary r (keys_of (pairs_at after c.climb.height (kind.Inner right)))
-      told_rotated l r up rebalances left_sums right_sums =
+      reported_rotated l r up rebalances left_sums right_sums =
           let m : RebalancesPair cmp is_summary now after c.climb.height number.0 (get_or bare.children slot c.climb.id) s (kind.Inner right) (Split up (kind.Inner right)) = subst (λ l. RebalancesPair cmp is_summary now after c.climb.height number.0 l s (kind.Inner right) (Split up (kind.Inner right))) (sym left_is) rebalances in
           let t = pair.pair_tree total is_summary c.climb.edit c.climb.kept c.climb.old now after c.climb.height number c.climb.k step.node i c.climb.id c.climb.leaf c.climb.turn c.climb.local at step.is step.leads step.read short c.climb.edits bare slot s (kind.Inner right) old_r entry beside (Split up (kind.Inner right)) m in
           let z = pair.pair_summed total is_summary c.climb.edit c.climb.kept c.climb.old now after c.climb.height number c.climb.k step.node i c.climb.id c.climb.leaf c.climb.turn c.climb.local at step.is step.leads step.read short c.climb.edits bare slot s (kind.Inner right) old_r entry beside (Split up (kind.Inner right)) m summed in
@@ -130,13 +131,13 @@ module _ {K V A : Type 0} {cmp : K → K → Ordering} (total : IsTotalOrder cmp
           let ready : IsSummed after is_summary c.climb.height (kind.Inner left) = subst (λ x. IsSummed after is_summary c.climb.height x) left_is z.0 in
           let both' = length-append (pairs_at after c.climb.height (get_or bare.children slot c.climb.id)) (pairs_at after c.climb.height (kind.Inner right)) in
           let same' = ap (λ x. length (pairs_at after c.climb.height x)) left_is in (
-            told_high left t.0 (Some up) l tree ready (omega (arith, few, f, both', same')) left_sums,
-            told_high right (Some up) t.1 r t.2.2 z.1 (omega (arith, few, f, both')) right_sums,
+            reported_high left t.0 (Some up) l tree ready (omega (arith, few, f, both', same')) left_sums,
+            reported_high right (Some up) t.1 r t.2.2 z.1 (omega (arith, few, f, both')) right_sums,
           )
 
       -- the two merged
       module _ (both : A) (rebalances : RebalancesPair cmp is_summary now after c.climb.height number.0 (kind.Inner left) s (kind.Inner right) Done) (order : leaves_at after c.climb.height (kind.Inner left) ≡ leaves_at now c.climb.height (kind.Inner left) ++ leaves_at now c.climb.height (kind.Inner right))
-          (here : after.inner number.0 ≡ Present (with_summary bare slot both)) (told : is_summary both (keys_of (pairs_at after c.climb.height (kind.Inner left)))) where
+          (here : after.inner number.0 ≡ Present (with_summary bare slot both)) (reported : is_summary both (keys_of (pairs_at after c.climb.height (kind.Inner left)))) where
         rebalances_there : RebalancesPair cmp is_summary now after c.climb.height number.0 (get_or bare.children slot c.climb.id) s (kind.Inner right) Done
         rebalances_there = subst (λ l. RebalancesPair cmp is_summary now after c.climb.height number.0 l s (kind.Inner right) Done) (sym left_is) rebalances
 
@@ -149,7 +150,7 @@ module _ {K V A : Type 0} {cmp : K → K → Ordering} (total : IsTotalOrder cmp
         pub edits_merged : Edits cmp is_summary c.climb.edit (length bare.keys) c.climb.old after (suc c.climb.height) (kind.Inner number) c.climb.k c.climb.leaf c.climb.turn Done
         edits_merged =
             pair.node_merged total is_summary c.climb.edit c.climb.kept c.climb.old now after c.climb.height number c.climb.k step.node i c.climb.id c.climb.leaf c.climb.turn c.climb.local at step.is step.leads step.read short c.climb.edits bare slot s (kind.Inner right) old_r entry beside both rebalances_there here
-            (subst (λ l. is_summary both (keys_of (pairs_at after c.climb.height l))) (sym left_is) told) (length bare.keys) (omega arith) c.climb.leaf c.climb.turn
+            (subst (λ l. is_summary both (keys_of (pairs_at after c.climb.height l))) (sym left_is) reported) (length bare.keys) (omega arith) c.climb.leaf c.climb.turn
             (record {
               order = order_so bare.children same_order;
               links = links_moved c.climb.old now after c.climb.leaf c.climb.turn leaf_at c.climb.edits.links;
@@ -161,17 +162,17 @@ module _ {K V A : Type 0} {cmp : K → K → Ordering} (total : IsTotalOrder cmp
           climb_merged = climb_on c.climb (suc c.climb.height) (kind.Inner number) (length bare.keys) step.way edits_merged held_after
 
           pub long : length step.node.keys ≡ length bare.keys + 1
-          long = ap (λ (n : Inner K A). length n.keys) entry.is ∙ length-insert bare.keys slot s entry.place.within
+          long = ap (λ (n : Inner K A). length n.keys) entry.is ∙ length-insert bare.keys slot s entry.index.within
 
-          abbrev pub climbs_merged : (above : A) → SumsUpAt cmp is_summary (after.inner number.0) above → ClimbsUnderflow cmp is_summary after rest number above
+          abbrev pub climbs_merged : (above : A) → SumsUpAt cmp is_summary (after.inner number.0) above → UnderflowBelow cmp is_summary after rest number above
           climbs_merged above sums = record {
             climb = climb_merged;
             here = refl;
             enough = omega (arith, seat_size cmp c.climb.old c.climb.k (least_at c.climb.top rest) c.climb.height number step.node step.is seat, long);
-            told = told_above (length bare.keys) edits_merged above sums;
+            reported = reported_above (length bare.keys) edits_merged above sums;
           }
 
-      -- the one rotated a child to the other
+      -- one of the two rotated a child to the other
       module _ (l r : A) (up : K) (rebalances : RebalancesPair cmp is_summary now after c.climb.height number.0 (kind.Inner left) s (kind.Inner right) (Split up (kind.Inner right)))
           (order : leaves_at after c.climb.height (kind.Inner left) ++ leaves_at after c.climb.height (kind.Inner right) ≡ leaves_at now c.climb.height (kind.Inner left) ++ leaves_at now c.climb.height (kind.Inner right))
           (here : after.inner number.0 ≡ Present (with_split bare slot l up (kind.Inner right) r)) (left_told : is_summary l (keys_of (pairs_at after c.climb.height (kind.Inner left)))) (right_told : is_summary r (keys_of (pairs_at after c.climb.height (kind.Inner right))))
@@ -199,9 +200,9 @@ module _ {K V A : Type 0} {cmp : K → K → Ordering} (total : IsTotalOrder cmp
         abbrev pub climb_rotated : Climb cmp is_summary after rest Done
         climb_rotated = climb_on c.climb (suc c.climb.height) (kind.Inner number) 16 step.way edits_rotated held_after
 
-        abbrev pub climbs_rotated : (above : A) → SumsUpAt cmp is_summary (after.inner number.0) above → Climbs cmp is_summary after rest above
+        abbrev pub climbs_rotated : (above : A) → SumsUpAt cmp is_summary (after.inner number.0) above → EditBelow cmp is_summary after rest above
         climbs_rotated above sums = record {
           climb = climb_rotated;
           enough = least_most c.climb.top rest;
-          told = told_above 16 edits_rotated above sums;
+          reported = reported_above 16 edits_rotated above sums;
         }

@@ -1,4 +1,4 @@
--- The children of a node one of which may have underflowed, and the sibling that is chosen for it.
+-- The children of a node, one of which may have underflowed, and the sibling that is chosen for it.
 use Rattle.std.proofs.Common.{◌≡◌, ℕ, suc, ◌+◌, ◌<◌, ◌≤◌, ◌⊎◌, cond, List, [], ◌∷◌, ◌++◌, length, refl, sym, ap, subst, ◌∙◌, arith, Option, Some, None, Result, IfOk, eqb, slice_get}
 use Rattle.std.specs.declared.cmp.Ordering.{Ordering}
 use Rattle.std.specs.Cmp.{IsTotalOrder}
@@ -12,29 +12,29 @@ use Rattle.bptree_keys.specs.declared.node_id.InnerNodeId.{InnerNodeId}
 use Rattle.bptree_keys.specs.declared.node_id.NodeId.{NodeId}
 use Rattle.bptree_keys.specs.declared.node_id.NodeId.TheVariants as kind
 use Rattle.bptree_keys.proofs.PieceLemmas.{AllByRecursion-weaker}
-use Rattle.bptree_ascent.specs.Climb.{least_at, Climbs, Risen}
-use Rattle.bptree_shape.specs.Edit.{Edits}
-use Rattle.bptree_shape.specs.Outcome.{Done}
+use Rattle.bptree_propagation.specs.Climb.{least_at, EditBelow, Propagated}
+use Rattle.bptree_invariant.specs.Edit.{Edits}
+use Rattle.bptree_invariant.specs.Outcome.{Done}
 use Rattle.bptree_rebalancing.specs.ChooseSibling.{ChoosesSibling, node_size, child_size, IsInnerAt, AllInner, NodesBelow}
-use Rattle.bptree_shape.specs.Order.{Chain}
-use Rattle.bptree_shape.specs.Path.{Way}
-use Rattle.bptree_shape.specs.Shape.{inner_keys, inner_children, pairs_at, inner_count, stands, root_least, IsTree}
+use Rattle.bptree_invariant.specs.Order.{Chain}
+use Rattle.bptree_invariant.specs.Path.{Way}
+use Rattle.bptree_invariant.specs.Shape.{inner_keys, inner_children, pairs_at, inner_count, stored, root_least, IsTree}
 use Rattle.bptree_rebalancing.specs.Transfer.{CanGive, Moves, HasEntry}
 use Rattle.bptree_rebalancing.specs.RotateMerge.{AreInnersBeside}
-use Rattle.bptree_ascent.specs.Sums.{HasPlace, PlaceAt}
-use Rattle.bptree_rebalancing.specs.Trim.{ClimbsUnderflow, Sunk}
+use Rattle.bptree_propagation.specs.Sums.{HasChildAt, IndexAt}
+use Rattle.bptree_rebalancing.specs.Trim.{UnderflowBelow, PropagatedUnderflow}
 use Rattle.bptree_rebalancing.specs.declared.rotate_merge.Sibling.{Sibling}
-use Rattle.bptree_shape.proofs.Agreeing.{stands_le}
-use Rattle.bptree_ascent.proofs.Climbing.{climb_on, has_place, stays, most, least_most, edits_less}
+use Rattle.bptree_invariant.proofs.Agreeing.{stored_le}
+use Rattle.bptree_propagation.proofs.Climbing.{climb_on, has_index, stays, most, least_most, edits_less}
 use Rattle.bptree_rebalancing.proofs.ClimbingUnderflow as short
 use Rattle.bptree_rebalancing.proofs.Choosing as choosing
 use Rattle.bptree_rebalancing.proofs.Choosing.{nodes_of_inners, size_read, chain_all, key_of, rotates_so, enough_so, fits_so}
-use Rattle.bptree_rebalancing.proofs.Seated.{Seat, seat_of, seat_size, inner_high}
+use Rattle.bptree_rebalancing.proofs.Seated.{SubtreeAt, seat_of, seat_size, inner_high}
 use Rattle.bptree_rebalancing.proofs.Transfers.{entry_out}
 use Rattle.bptree_rebalancing.proofs.Triples.{ok_so}
-use Rattle.bptree_shape.proofs.Walk.{chain_length}
-use Rattle.bptree_shape.proofs.Widen.{tree_less, grown_done}
-use Rattle.bptree_shape.proofs.ListReads.{all_read, read_some}
+use Rattle.bptree_invariant.proofs.Walk.{chain_length}
+use Rattle.bptree_invariant.proofs.Widen.{tree_less, grown_done}
+use Rattle.bptree_invariant.proofs.ListReads.{all_read, read_some}
 
 -- an inner node with one child more than keys, of which there may be 15
 abbrev pub IsFull : {K V A : Type 0} → Slots (Inner K A) (Leaf K V) → NodeId → Type 0
@@ -50,23 +50,23 @@ inner_of slots (kind.Leaf id) f = absurd f
 inner_of slots (kind.Inner id) f = f.0
 
 module _ {K V A : Type 0} {cmp : K → K → Ordering} (total : IsTotalOrder cmp) (is_summary : A → List K → Type 0) (now : Slots (Inner K A) (Leaf K V)) (path : List (InnerNodeId × ℕ × NodeId)) (nid : InnerNodeId) (a : A)
-    (c : ClimbsUnderflow cmp is_summary now path nid a) where
-  -- the node that may have underflowed stands there
+    (c : UnderflowBelow cmp is_summary now path nid a) where
+  -- the node that may have underflowed is present
   pub top_present : IsPresent (now.inner nid.0)
   top_present =
       let d = c.climb in
-      let high = inner_high cmp d.old d.k (least_at d.top path) d.height nid (subst (λ x. Seat cmp d.old d.k (least_at d.top path) d.height x) c.here (seat_of cmp d.old d.k path d.top d.root d.height d.id d.way d.shape)) in
+      let high = inner_high cmp d.old d.k (least_at d.top path) d.height nid (subst (λ x. SubtreeAt cmp d.old d.k (least_at d.top path) d.height x) c.here (seat_of cmp d.old d.k path d.top d.root d.height d.id d.way d.shape)) in
       let s = seat_of cmp d.old d.k path d.top d.root d.height d.id d.way d.shape in
       let t = d.edits.tree 0 s.low s.high (omega arith) (tree_less cmp d.old (least_at d.top path) 0 d.height d.id s.low s.high (omega arith) s.tree) s.fits in
       let u = subst (λ n. IsTree cmp now 0 n (kind.Inner nid) s.low s.high) high.1 (subst (λ x. IsTree cmp now 0 d.height x s.low s.high) c.here t) in
       u.0
 
-  -- where it has enough keys, the climb is one of a whole node
+  -- if the node has enough keys, the climb is one of a whole node
   module _ (filled : 16 ≤ length (inner_keys (now.inner nid.0))) where
     at_top : (least : ℕ) (lo hi : Option K) → least ≤ 16 → IsTree cmp now 0 c.climb.height c.climb.id lo hi → IsTree cmp now least c.climb.height c.climb.id lo hi
     at_top least lo hi under t =
         let d = c.climb in
-        let high = inner_high cmp d.old d.k (least_at d.top path) d.height nid (subst (λ x. Seat cmp d.old d.k (least_at d.top path) d.height x) c.here (seat_of cmp d.old d.k path d.top d.root d.height d.id d.way d.shape)) in
+        let high = inner_high cmp d.old d.k (least_at d.top path) d.height nid (subst (λ x. SubtreeAt cmp d.old d.k (least_at d.top path) d.height x) c.here (seat_of cmp d.old d.k path d.top d.root d.height d.id d.way d.shape)) in
         let u = subst (λ n. IsTree cmp now 0 n (kind.Inner nid) lo hi) high.1 (subst (λ x. IsTree cmp now 0 d.height x lo hi) c.here t) in
         let v : IsTree cmp now least (suc high.0) (kind.Inner nid) lo hi = (u.0, u.1, omega (arith, filled), u.3) in
         subst (λ x. IsTree cmp now least d.height x lo hi) (sym c.here) (subst (λ n. IsTree cmp now least n (kind.Inner nid) lo hi) (sym high.1) v)
@@ -87,25 +87,25 @@ module _ {K V A : Type 0} {cmp : K → K → Ordering} (total : IsTotalOrder cmp
           summed = d.edits.summed;
         }
 
-    abbrev pub filled_climbs : Climbs cmp is_summary now path a
+    abbrev pub filled_climbs : EditBelow cmp is_summary now path a
     filled_climbs = record {
       climb = climb_on c.climb c.climb.height c.climb.id 16 c.climb.way filled_edits c.climb.free;
       enough = least_most c.climb.top path;
-      told = c.told;
+      reported = c.reported;
     }
 
-    sunk_filled : (new : Slots (Inner K A) (Leaf K V)) (top : A) → Risen filled_climbs.climb new top → Sunk c.climb new top
+    sunk_filled : (new : Slots (Inner K A) (Leaf K V)) (top : A) → Propagated filled_climbs.climb new top → PropagatedUnderflow c.climb new top
     sunk_filled new top r = record {
       edits = edits_less is_summary c.climb.edit (root_least c.climb.top) 0 c.climb.old new c.climb.top c.climb.root c.climb.k c.climb.leaf c.climb.turn Done (omega arith) r.edits;
       free = r.free;
-      told = r.told;
+      reported = r.reported;
     }
 
-    pub filled_sinks : {E : Type 0} (new : Slots (Inner K A) (Leaf K V)) (r : Result A E) → IfOk r (λ top. Risen filled_climbs.climb new top) → IfOk r (λ top. Sunk c.climb new top)
-    filled_sinks new r rises = ok_so r (λ top. Risen filled_climbs.climb new top) (λ top. Sunk c.climb new top) rises (sunk_filled new)
+    pub filled_sinks : {E : Type 0} (new : Slots (Inner K A) (Leaf K V)) (r : Result A E) → IfOk r (λ top. Propagated filled_climbs.climb new top) → IfOk r (λ top. PropagatedUnderflow c.climb new top)
+    filled_sinks new r rises = ok_so r (λ top. Propagated filled_climbs.climb new top) (λ top. PropagatedUnderflow c.climb new top) rises (sunk_filled new)
 
-  -- with no node above, it is the root
-  pub sunk_here : path ≡ [] → Sunk c.climb now a
+  -- if no node is above, the node is the root
+  pub sunk_here : path ≡ [] → PropagatedUnderflow c.climb now a
   sunk_here none =
       let d = c.climb in
       let way : (d.top ≡ d.height) × (d.root ≡ d.id) = subst (λ p. Way cmp d.old d.k d.top d.root p d.height d.id) none d.way in
@@ -113,7 +113,7 @@ module _ {K V A : Type 0} {cmp : K → K → Ordering} (total : IsTotalOrder cmp
         edits = edits_less is_summary d.edit d.kept 0 d.old now d.top d.root d.k d.leaf d.turn Done (omega arith)
             (subst (λ n. Edits cmp is_summary d.edit d.kept d.old now n d.root d.k d.leaf d.turn Done) (sym way.0) (subst (λ x. Edits cmp is_summary d.edit d.kept d.old now d.height x d.k d.leaf d.turn Done) (sym way.1) d.edits));
         free = d.free;
-        told = subst (λ n. is_summary a (keys_of (pairs_at now n d.root))) (sym way.0) (subst (λ x. is_summary a (keys_of (pairs_at now d.height x))) (sym way.1) c.told);
+        reported = subst (λ n. is_summary a (keys_of (pairs_at now n d.root))) (sym way.0) (subst (λ x. is_summary a (keys_of (pairs_at now d.height x))) (sym way.1) c.reported);
       }
 
   module _ (rest : List (InnerNodeId × ℕ × NodeId)) (number : InnerNodeId) (i : ℕ) (child : NodeId) (e : path ≡ rest ++ (number, i, child) ∷ []) where
@@ -123,8 +123,8 @@ module _ {K V A : Type 0} {cmp : K → K → Ordering} (total : IsTotalOrder cmp
     pub here : now.inner number.0 ≡ Present node
     here = stays total is_summary now path _ c.climb rest number i child e
 
-    pub place : HasPlace node i
-    place = has_place total is_summary now path _ c.climb rest number i child e
+    pub index : HasChildAt node i
+    index = has_index total is_summary now path _ c.climb rest number i child e
 
     pub low : length node.keys ≤ 64
     low = most total is_summary now path _ c.climb rest number i child e
@@ -148,7 +148,7 @@ module _ {K V A : Type 0} {cmp : K → K → Ordering} (total : IsTotalOrder cmp
     pub size_at : (j : ℕ) (x : InnerNodeId) → slice_get node.children j ≡ Some (kind.Inner x) → child_size now node.children j ≡ length (inner_keys (now.inner x.0))
     size_at j x read = size_read now node.children j (kind.Inner x) read
 
-    -- the one that underflowed is at the place
+    -- the child at the index is the one that may have underflowed
     pub size_here : child_size now node.children i ≡ length (inner_keys (now.inner nid.0))
     size_here = size_read now node.children i c.climb.id (short.step total is_summary now now path nid a c rest number i child e).read ∙ ap (node_size now) c.here
 
@@ -156,22 +156,22 @@ module _ {K V A : Type 0} {cmp : K → K → Ordering} (total : IsTotalOrder cmp
         (read_left : slice_get node.children slot ≡ Some (kind.Inner left)) (read_right : slice_get node.children (slot + 1) ≡ Some (kind.Inner right)) where
       entry_there : (s : K) × (b : A) × HasEntry node (without_entry node slot) slot s (kind.Inner right) b
       entry_there =
-          let p = place in
+          let p = index in
           let k = read_some node.keys slot within in
           let x = read_some node.arguments (slot + 1) (omega (arith, within, p.children, p.arguments)) in
           (k.0, x.0, entry_out node (without_entry node slot) slot k.0 (kind.Inner right) x.0 (record { within = omega (arith, within); children = p.children; arguments = p.arguments }) k.1 read_right x.1 refl)
 
-      owned : (x : ℕ) → cond (eqb number.0 x) 1 0 + (inner_count now (suc (short.high total is_summary now now path nid a c rest number i child e).0) (kind.Inner left) x + inner_count now (suc (short.high total is_summary now now path nid a c rest number i child e).0) (kind.Inner right) x) ≤ stands (now.inner x)
+      owned : (x : ℕ) → cond (eqb number.0 x) 1 0 + (inner_count now (suc (short.high total is_summary now now path nid a c rest number i child e).0) (kind.Inner left) x + inner_count now (suc (short.high total is_summary now now path nid a c rest number i child e).0) (kind.Inner right) x) ≤ stored (now.inner x)
       owned = short.own_high total is_summary now now path nid a c rest number i child e slot left right (without_entry node slot) (kind.Inner right) entry_there.0 entry_there.1 entry_there.2 beside read_left read_right
 
       pub apart : (left.0 ≡ right.0 → ⊥) × (left.0 ≡ number.0 → ⊥) × (right.0 ≡ number.0 → ⊥)
       apart = (
-        (λ q. let one = rw (eq-eqb left.0 left.0 refl, eq-eqb right.0 left.0 (sym q)) at (owned left.0) in omega (arith, one, stands_le (now.inner left.0))),
-        (λ q. let one = rw (eq-eqb number.0 left.0 (sym q), eq-eqb left.0 left.0 refl) at (owned left.0) in omega (arith, one, stands_le (now.inner left.0))),
-        (λ q. let one = rw (eq-eqb number.0 right.0 (sym q), eq-eqb right.0 right.0 refl) at (owned right.0) in omega (arith, one, stands_le (now.inner right.0))),
+        (λ q. let one = rw (eq-eqb left.0 left.0 refl, eq-eqb right.0 left.0 (sym q)) at (owned left.0) in omega (arith, one, stored_le (now.inner left.0))),
+        (λ q. let one = rw (eq-eqb number.0 left.0 (sym q), eq-eqb left.0 left.0 refl) at (owned left.0) in omega (arith, one, stored_le (now.inner left.0))),
+        (λ q. let one = rw (eq-eqb number.0 right.0 (sym q), eq-eqb right.0 right.0 refl) at (owned right.0) in omega (arith, one, stored_le (now.inner right.0))),
       )
 
-      -- the sizes of the two, where the child at the place is short
+      -- the sizes of the two siblings, if the child at the index is short
       module _ (lacks : length (inner_keys (now.inner nid.0)) < 16) where
         size_short : child_size now node.children i < 16
         size_short = omega (arith, size_here, lacks)
@@ -185,15 +185,15 @@ module _ {K V A : Type 0} {cmp : K → K → Ordering} (total : IsTotalOrder cmp
         pub rotates_here : (giver : Sibling) → ChoosesSibling (child_size now node.children) i slot (Some giver) → CanGive giver (length (inner_keys (now.inner left.0))) (length (inner_keys (now.inner right.0)))
         rotates_here giver chosen = rotates_so (child_size now node.children) i slot _ _ left_size right_size size_short giver (full_at slot left read_left).2 (full_at (slot + 1) right read_right).2 chosen
 
-        -- and then both have enough
+        -- after a rotation both have enough
         pub enough_then : (giver : Sibling) (x y : ℕ) → ChoosesSibling (child_size now node.children) i slot (Some giver) → Moves giver (length (inner_keys (now.inner left.0))) (length (inner_keys (now.inner right.0))) x y → (16 ≤ x) × (16 ≤ y)
         enough_then giver x y chosen moves = enough_so (child_size now node.children) i slot _ _ left_size right_size size_short giver x y (full_at slot left read_left).1 (full_at (slot + 1) right read_right).1 chosen moves
 
-        -- where none rotates, they fit into one
+        -- if neither gives, the two fit into one
         pub fits_here : ChoosesSibling (child_size now node.children) i slot None → length (inner_keys (now.inner left.0)) + length (inner_keys (now.inner right.0)) < 64
         fits_here chosen = fits_so (child_size now node.children) i slot _ _ left_size right_size size_short chosen
 
-    -- the sibling stands beside it
+    -- the chosen sibling is beside the child
     pub beside_of : (slot : ℕ) (giver : Option Sibling) → ChoosesSibling (child_size now node.children) i slot giver → (i ≡ slot) ⊎ (i ≡ suc slot)
     beside_of slot giver chosen = choosing.beside_of (child_size now node.children) i slot giver chosen
 
@@ -206,11 +206,11 @@ module _ {K V A : Type 0} {cmp : K → K → Ordering} (total : IsTotalOrder cmp
         omega (arith, least_some_key, seat_size cmp d.old d.k (least_at d.top rest) d.height number node (short.step total is_summary now now path nid a c rest number i child e).is (short.seat total is_summary now now path nid a c rest number i child e))
 
     pub within_of : (slot : ℕ) (giver : Option Sibling) → ChoosesSibling (child_size now node.children) i slot giver → slot < length node.keys
-    within_of slot giver chosen = choosing.within_of now node.children (length node.keys) i slot giver place.children place.within some_key chosen
+    within_of slot giver chosen = choosing.within_of now node.children (length node.keys) i slot giver index.children index.within some_key chosen
 
--- The same of what stands under the number of the node above.
+-- The facts of the two siblings, by the slot of the node above.
 module _ {K V A : Type 0} {cmp : K → K → Ordering} (total : IsTotalOrder cmp) {is_summary : A → List K → Type 0} {now : Slots (Inner K A) (Leaf K V)} {path : List (InnerNodeId × ℕ × NodeId)} {nid : InnerNodeId} {a : A}
-    (c : ClimbsUnderflow cmp is_summary now path nid a) (rest : List (InnerNodeId × ℕ × NodeId)) (number : InnerNodeId) (i : ℕ) (child : NodeId) (e : path ≡ rest ++ (number, i, child) ∷ []) where
+    (c : UnderflowBelow cmp is_summary now path nid a) (rest : List (InnerNodeId × ℕ × NodeId)) (number : InnerNodeId) (i : ℕ) (child : NodeId) (e : path ≡ rest ++ (number, i, child) ∷ []) where
   at_number : now.inner number.0 ≡ Present (node total is_summary now path nid a c rest number i child e)
   at_number = here total is_summary now path nid a c rest number i child e
 
@@ -224,7 +224,7 @@ module _ {K V A : Type 0} {cmp : K → K → Ordering} (total : IsTotalOrder cmp
   nodes_there = nodes_of_inners now (inner_children (now.inner number.0)) inners_there
 
   pub long_there : length (inner_children (now.inner number.0)) ≡ length (inner_keys (now.inner number.0)) + 1
-  long_there = rw at_number (place total is_summary now path nid a c rest number i child e).children
+  long_there = rw at_number (index total is_summary now path nid a c rest number i child e).children
 
   most_there : length (inner_keys (now.inner number.0)) ≤ 64
   most_there = rw at_number (low total is_summary now path nid a c rest number i child e)
@@ -232,8 +232,8 @@ module _ {K V A : Type 0} {cmp : K → K → Ordering} (total : IsTotalOrder cmp
   pub fits_there : length (inner_children (now.inner number.0)) ≤ 65
   fits_there = omega (arith, long_there, most_there)
 
-  pub place_there : i < length (inner_children (now.inner number.0))
-  place_there = let p = place total is_summary now path nid a c rest number i child e in rw at_number (omega (arith, p.within, p.children))
+  pub index_there : i < length (inner_children (now.inner number.0))
+  index_there = let p = index total is_summary now path nid a c rest number i child e in rw at_number (omega (arith, p.within, p.children))
 
   module _ (slot : ℕ) (choose_sibling : Option Sibling) (chosen : ChoosesSibling (child_size now (inner_children (now.inner number.0))) i slot choose_sibling) where
     chosen_so : ChoosesSibling (child_size now (node total is_summary now path nid a c rest number i child e).children) i slot choose_sibling
@@ -243,10 +243,10 @@ module _ {K V A : Type 0} {cmp : K → K → Ordering} (total : IsTotalOrder cmp
     within_so = within_of total is_summary now path nid a c rest number i child e slot choose_sibling chosen_so
 
     pub slot_there : slot + 1 < length (inner_children (now.inner number.0))
-    slot_there = rw at_number (omega (arith, within_so, (place total is_summary now path nid a c rest number i child e).children))
+    slot_there = rw at_number (omega (arith, within_so, (index total is_summary now path nid a c rest number i child e).children))
 
-    entry_at : PlaceAt (now.inner number.0) (slot + 1)
-    entry_at = let p = place total is_summary now path nid a c rest number i child e in rw at_number (record { within = omega (arith, within_so); children = p.children; arguments = p.arguments })
+    entry_at : IndexAt (now.inner number.0) (slot + 1)
+    entry_at = let p = index total is_summary now path nid a c rest number i child e in rw at_number (record { within = omega (arith, within_so); children = p.children; arguments = p.arguments })
 
     pub beside_there : (i ≡ slot) ⊎ (i ≡ suc slot)
     beside_there = beside_of total is_summary now path nid a c rest number i child e slot choose_sibling chosen_so
@@ -267,9 +267,9 @@ module _ {K V A : Type 0} {cmp : K → K → Ordering} (total : IsTotalOrder cmp
       apart_there : (left.0 ≡ right.0 → ⊥) × (left.0 ≡ number.0 → ⊥) × (right.0 ≡ number.0 → ⊥)
       apart_there = apart total is_summary now path nid a c rest number i child e slot left right beside_there within_so left_so right_so
 
-      -- all that a change of the two asks but for their sizes
+      -- a change of the two requires only this, and their sizes
       pub siblings_there : AreInnersBeside now slot number left right
-      siblings_there = record { place = entry_at; most = most_there; left_some = omega (arith, left_there.3); right_some = omega (arith, right_there.3); apart = apart_there }
+      siblings_there = record { index = entry_at; most = most_there; left_some = omega (arith, left_there.3); right_some = omega (arith, right_there.3); apart = apart_there }
 
       module _ (lacks : length (inner_keys (now.inner nid.0)) < 16) where
         pub rotates_there : (giver : Sibling) → choose_sibling ≡ Some giver → CanGive giver (length (inner_keys (now.inner left.0))) (length (inner_keys (now.inner right.0)))

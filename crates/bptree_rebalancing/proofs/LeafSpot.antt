@@ -1,4 +1,4 @@
--- A leaf that underflows, at a place of a node, and the leaves beside it.
+-- A leaf that underflows, at a child index of a node, and the leaves beside it.
 use Rattle.std.proofs.Common.{◌≡◌, ℕ, suc, ◌+◌, ◌<◌, ◌≤◌, ◌^◌, inl, inr, ◌⊎◌, zero, List, [], ◌∷◌, ◌++◌, length, take, drop, refl, sym, ap, subst, ◌∙◌, arith, add-one, append_assoc, append-nil, Option, Some, None, slice_get}
 use Rattle.std.specs.declared.cmp.Ordering.{Ordering}
 use Rattle.std.specs.Cmp.{IsTotalOrder}
@@ -14,26 +14,26 @@ use Rattle.bptree_keys.specs.declared.node_id.LeafNodeId.{LeafNodeId}
 use Rattle.bptree_keys.specs.declared.node_id.NodeId.{NodeId}
 use Rattle.bptree_keys.specs.declared.node_id.NodeId.TheVariants as kind
 use Rattle.bptree_keys.proofs.PieceLemmas.{AllByRecursion-weaker}
-use Rattle.bptree_ascent.specs.Climb.{least_at}
-use Rattle.bptree_shape.specs.Edit.{CanReach, Spares, SameLinks, LinksAt, Extends}
+use Rattle.bptree_propagation.specs.Climb.{least_at}
+use Rattle.bptree_invariant.specs.Edit.{CanReach, Spares, SameLinks, LinksAt, Extends}
 use Rattle.bptree_rebalancing.specs.ChooseSibling.{ChoosesSibling, node_size, child_size, IsLeafAt, AllLeaves}
-use Rattle.bptree_shape.specs.Order.{flat, Chain}
-use Rattle.bptree_shape.specs.Outcome.{Done}
-use Rattle.bptree_shape.specs.Path.{Way}
-use Rattle.bptree_shape.specs.Shape.{leaf_pairs, leaf_next, inner_keys, inner_children, pairs_at, leaves_at, leaf_count, stands, AreLinked, IsSummed, IsTree}
+use Rattle.bptree_invariant.specs.Order.{flat, Chain}
+use Rattle.bptree_invariant.specs.Outcome.{Done}
+use Rattle.bptree_invariant.specs.Path.{Way}
+use Rattle.bptree_invariant.specs.Shape.{leaf_pairs, leaf_next, inner_keys, inner_children, pairs_at, leaves_at, leaf_count, stored, AreLinked, IsSummed, IsTree}
 use Rattle.bptree_rebalancing.specs.Transfer.{CanGive, Moves}
-use Rattle.bptree_ascent.specs.Sums.{HasPlace, PlaceAt}
+use Rattle.bptree_propagation.specs.Sums.{HasChildAt, IndexAt}
 use Rattle.bptree_rebalancing.specs.Trim.{LeafUnderflow}
 use Rattle.bptree_rebalancing.specs.declared.rotate_merge.Sibling.{Sibling}
-use Rattle.bptree_shape.proofs.Agreeing.{stands_le, present_if_stands, stands_if_present}
-use Rattle.bptree_ascent.proofs.Climbing.{last, can, summed_there, stays, has_place, most, few_there}
+use Rattle.bptree_invariant.proofs.Agreeing.{stored_le, present_if_stored, stored_if_present}
+use Rattle.bptree_propagation.proofs.Climbing.{last, can, summed_there, stays, has_index, most, few_there}
 use Rattle.bptree_rebalancing.proofs.Choosing as choosing
-use Rattle.bptree_shape.proofs.Hinted.{linked_next}
-use Rattle.bptree_rebalancing.proofs.Seated.{Seat, seat_of, seat_size}
-use Rattle.bptree_shape.proofs.Walk.{flat_parts}
-use Rattle.bptree_shape.proofs.Ways.{LastStep}
-use Rattle.bptree_shape.proofs.Widen.{Grown, grown_done, own_leaves}
-use Rattle.bptree_shape.proofs.ListReads.{all_read, read_below}
+use Rattle.bptree_invariant.proofs.Hinted.{linked_next}
+use Rattle.bptree_rebalancing.proofs.Seated.{SubtreeAt, seat_of, seat_size}
+use Rattle.bptree_invariant.proofs.Walk.{flat_parts}
+use Rattle.bptree_invariant.proofs.Ways.{LastStep}
+use Rattle.bptree_invariant.proofs.Widen.{Grown, grown_done, own_leaves}
+use Rattle.bptree_invariant.proofs.ListReads.{all_read, read_below}
 
 -- a leaf of 15 to 64 pairs
 abbrev pub IsFullLeaf : {K V A : Type 0} → Slots (Inner K A) (Leaf K V) → NodeId → Type 0
@@ -53,7 +53,7 @@ module _ {K V A : Type 0} (slots : Slots (Inner K A) (Leaf K V)) where
   size_of (kind.Leaf id) f = refl
   size_of (kind.Inner id) f = absurd f
 
--- a leaf is counted by its number alone
+-- a leaf is counted by its id alone
 count_low : {K V A : Type 0} (s t : Slots (Inner K A) (Leaf K V)) (c : NodeId) (n : ℕ) → leaf_count s 0 c n ≡ leaf_count t 0 c n
 count_low s t (kind.Leaf id) n = refl
 count_low s t (kind.Inner id) n = refl
@@ -61,7 +61,7 @@ count_low s t (kind.Inner id) n = refl
 parts_moved : {X : Type 0} (l b x a r : List X) → l ++ ((b ++ (x ++ a)) ++ r) ≡ (l ++ b) ++ (x ++ (a ++ r))
 parts_moved l b x a r = ap (λ y. l ++ y) (append_assoc b (x ++ a) r ∙ ap (λ y. b ++ y) (append_assoc x a r)) ∙ sym (append_assoc l b (x ++ (a ++ r)))
 
--- the leaves below a node of a path stand together among all leaves
+-- the leaves below a node of a path are contiguous among all leaves
 way_leaves : {K V A : Type 0} (cmp : K → K → Ordering) (slots : Slots (Inner K A) (Leaf K V)) (k : K) (path : List (InnerNodeId × ℕ × NodeId)) (top : ℕ) (root : NodeId) (h : ℕ) (id : NodeId) → Way cmp slots k top root path h id
     → (before : List LeafNodeId) × (after : List LeafNodeId) × (leaves_at slots top root ≡ before ++ (leaves_at slots h id ++ after))
 way_leaves cmp slots k [] top root h id way =
@@ -94,8 +94,8 @@ module _ {K V A : Type 0} {cmp : K → K → Ordering} (total' : IsTotalOrder cm
   pub here : now.inner number.0 ≡ Present node
   here = stays total' is_summary now (path ++ (number, i, c.child) ∷ []) Done c.climb path number i c.child refl
 
-  pub place : HasPlace node i
-  place = has_place total' is_summary now (path ++ (number, i, c.child) ∷ []) Done c.climb path number i c.child refl
+  pub index : HasChildAt node i
+  index = has_index total' is_summary now (path ++ (number, i, c.child) ∷ []) Done c.climb path number i c.child refl
 
   pub low : length node.keys ≤ 64
   low = most total' is_summary now (path ++ (number, i, c.child) ∷ []) Done c.climb path number i c.child refl
@@ -106,7 +106,7 @@ module _ {K V A : Type 0} {cmp : K → K → Ordering} (total' : IsTotalOrder cm
   pub few : length (c.climb.edit (pairs_at c.climb.old (suc c.climb.height) (kind.Inner number))) < 2 ^ 64
   few = few_there total' is_summary now (path ++ (number, i, c.child) ∷ []) Done c.climb path number i c.child refl
 
-  pub seat : Seat cmp c.climb.old c.climb.k (least_at c.climb.top path) (suc c.climb.height) (kind.Inner number)
+  pub seat : SubtreeAt cmp c.climb.old c.climb.k (least_at c.climb.top path) (suc c.climb.height) (kind.Inner number)
   seat = seat_of cmp c.climb.old c.climb.k path c.climb.top c.climb.root (suc c.climb.height) (kind.Inner number) step.way c.climb.shape
 
   grown : Grown total' is_summary c.climb.edit c.climb.kept c.climb.old now c.climb.height number c.climb.k node i c.climb.id c.climb.leaf c.climb.turn c.climb.local at step.is step.leads step.read 15 node.keys node.children
@@ -132,22 +132,22 @@ module _ {K V A : Type 0} {cmp : K → K → Ordering} (total' : IsTotalOrder cm
       let size : length (pairs_at now 0 c.climb.id) ≡ 15 = subst (λ n. length (pairs_at now n c.climb.id) ≡ 15) c.low c.short in
       omega (arith, choosing.size_read now node.children i c.climb.id step.read, size_of now c.climb.id full, size)
 
-  -- the leaves stand in order as they did, with the links that they had
+  -- the leaves keep their order and their links
   pub same_order : flat (leaves_at c.climb.old c.climb.height) node.children ≡ flat (leaves_at now c.climb.height) node.children
   same_order =
       let o = subst (λ t. Extends (flat (leaves_at c.climb.old c.climb.height) node.children) c.climb.leaf t (flat (leaves_at now c.climb.height) node.children)) c.stays grown.order in
       o.was ∙ sym o.is
 
-  same_stands : (x : ℕ) → stands (now.leaf x) ≡ stands (c.climb.old.leaf x)
-  same_stands x =
-      let e = subst (λ m. leaf_count now m c.climb.id x + stands (c.climb.old.leaf x) ≡ leaf_count c.climb.old m c.climb.id x + stands (now.leaf x)) c.low (c.climb.edits.leaves x) in
+  same_stored : (x : ℕ) → stored (now.leaf x) ≡ stored (c.climb.old.leaf x)
+  same_stored x =
+      let e = subst (λ m. leaf_count now m c.climb.id x + stored (c.climb.old.leaf x) ≡ leaf_count c.climb.old m c.climb.id x + stored (now.leaf x)) c.low (c.climb.edits.leaves x) in
       omega (arith, e, count_low now c.climb.old c.climb.id x)
 
   pub there_now : (x : LeafNodeId) → IsPresent (c.climb.old.leaf x.0) → IsPresent (now.leaf x.0)
-  there_now x some = present_if_stands (now.leaf x.0) (omega (arith, same_stands x.0, stands_if_present (c.climb.old.leaf x.0) some))
+  there_now x some = present_if_stored (now.leaf x.0) (omega (arith, same_stored x.0, stored_if_present (c.climb.old.leaf x.0) some))
 
   pub there_was : (x : LeafNodeId) → IsPresent (now.leaf x.0) → IsPresent (c.climb.old.leaf x.0)
-  there_was x some = present_if_stands (c.climb.old.leaf x.0) (omega (arith, same_stands x.0, stands_if_present (now.leaf x.0) some))
+  there_was x some = present_if_stored (c.climb.old.leaf x.0) (omega (arith, same_stored x.0, stored_if_present (now.leaf x.0) some))
 
   pub links_now : (x : LeafNodeId) → IsPresent (c.climb.old.leaf x.0) → SameLinks c.climb.old now x
   links_now x some =
@@ -165,16 +165,16 @@ module _ {K V A : Type 0} {cmp : K → K → Ordering} (total' : IsTotalOrder cm
       )
 
   pub within_of : (slot : ℕ) (giver : Option Sibling) → ChoosesSibling (child_size now node.children) i slot giver → slot < length node.keys
-  within_of slot giver chosen = choosing.within_of now node.children (length node.keys) i slot giver place.children place.within some_key chosen
+  within_of slot giver chosen = choosing.within_of now node.children (length node.keys) i slot giver index.children index.within some_key chosen
 
   pub beside_of : (slot : ℕ) (giver : Option Sibling) → ChoosesSibling (child_size now node.children) i slot giver → (i ≡ slot) ⊎ (i ≡ suc slot)
   beside_of slot giver chosen = choosing.beside_of (child_size now node.children) i slot giver chosen
 
   -- two leaves on both sides of a separator
   module _ (slot : ℕ) (left right : LeafNodeId) (read_left : slice_get node.children slot ≡ Some (kind.Leaf left)) (read_right : slice_get node.children (slot + 1) ≡ Some (kind.Leaf right)) where
-    owned : (x : ℕ) → leaf_count now 0 (kind.Leaf left) x + leaf_count now 0 (kind.Leaf right) x ≤ stands (now.leaf x)
+    owned : (x : ℕ) → leaf_count now 0 (kind.Leaf left) x + leaf_count now 0 (kind.Leaf right) x ≤ stored (now.leaf x)
     owned x =
-        subst (λ m. leaf_count now m (kind.Leaf left) x + leaf_count now m (kind.Leaf right) x ≤ stands (now.leaf x)) c.low
+        subst (λ m. leaf_count now m (kind.Leaf left) x + leaf_count now m (kind.Leaf right) x ≤ stored (now.leaf x)) c.low
         (omega (
           arith,
           grown.leaves x,
@@ -183,7 +183,7 @@ module _ {K V A : Type 0} {cmp : K → K → Ordering} (total' : IsTotalOrder cm
         ))
 
     pub apart : left.0 ≡ right.0 → ⊥
-    apart q = let two = rw (eq-eqb left.0 left.0 refl, eq-eqb right.0 left.0 (sym q)) at (owned left.0) in omega (arith, two, stands_le (now.leaf left.0))
+    apart q = let two = rw (eq-eqb left.0 left.0 refl, eq-eqb right.0 left.0 (sym q)) at (owned left.0) in omega (arith, two, stored_le (now.leaf left.0))
 
     left_size : child_size now node.children slot ≡ length (leaf_pairs (now.leaf left.0))
     left_size = size_at slot left read_left
@@ -216,7 +216,7 @@ next_of {K} {V} {A} {cmp} total' is_summary now path number i c left right befor
         ∙ (ap (λ (x : Slot (Inner K A)). w.0 ++ (flat (leaves_at c.climb.old c.climb.height) (inner_children x) ++ w.1)) (step total' is_summary now path number i c).is
         ∙ (ap (λ x. w.0 ++ (x ++ w.1)) was ∙ parts_moved w.0 before (left ∷ []) (right ∷ after) w.1))
 
--- The same of what stands under the node's number.
+-- The facts of the two leaves, by the slot of the node above.
 module _ {K V A : Type 0} {cmp : K → K → Ordering} (total' : IsTotalOrder cmp) {is_summary : A → List K → Type 0} {now : Slots (Inner K A) (Leaf K V)} {path : List (InnerNodeId × ℕ × NodeId)} {number : InnerNodeId} {i : ℕ}
     (c : LeafUnderflow cmp is_summary now path number i) where
   at_number : now.inner number.0 ≡ Present (node total' is_summary now path number i c)
@@ -229,7 +229,7 @@ module _ {K V A : Type 0} {cmp : K → K → Ordering} (total' : IsTotalOrder cm
   leaves_there = rw at_number (all_leaves total' is_summary now path number i c)
 
   pub long_there : length (inner_children (now.inner number.0)) ≡ length (inner_keys (now.inner number.0)) + 1
-  long_there = rw at_number (place total' is_summary now path number i c).children
+  long_there = rw at_number (index total' is_summary now path number i c).children
 
   pub most_there : length (inner_keys (now.inner number.0)) ≤ 64
   most_there = rw at_number (low total' is_summary now path number i c)
@@ -237,19 +237,19 @@ module _ {K V A : Type 0} {cmp : K → K → Ordering} (total' : IsTotalOrder cm
   pub fits_there : length (inner_children (now.inner number.0)) ≤ 65
   fits_there = omega (arith, long_there, most_there)
 
-  pub place_there : i < length (inner_children (now.inner number.0))
-  place_there = let p = place total' is_summary now path number i c in rw at_number (omega (arith, p.within, p.children))
+  pub index_there : i < length (inner_children (now.inner number.0))
+  index_there = let p = index total' is_summary now path number i c in rw at_number (omega (arith, p.within, p.children))
 
   module _ (slot : ℕ) (giver : Option Sibling) (chosen : ChoosesSibling (child_size now (inner_children (now.inner number.0))) i slot giver) where
     chosen_so : ChoosesSibling (child_size now (node total' is_summary now path number i c).children) i slot giver
     chosen_so = subst (λ (x : Slot (Inner K A)). ChoosesSibling (child_size now (inner_children x)) i slot giver) at_number chosen
 
     pub slot_there : slot + 1 < length (inner_children (now.inner number.0))
-    slot_there = rw at_number (omega (arith, within_of total' is_summary now path number i c slot giver chosen_so, (place total' is_summary now path number i c).children))
+    slot_there = rw at_number (omega (arith, within_of total' is_summary now path number i c slot giver chosen_so, (index total' is_summary now path number i c).children))
 
-    pub entry_there : PlaceAt (now.inner number.0) (slot + 1)
+    pub entry_there : IndexAt (now.inner number.0) (slot + 1)
     entry_there =
-        let p = place total' is_summary now path number i c in
+        let p = index total' is_summary now path number i c in
         rw at_number (record { within = omega (arith, within_of total' is_summary now path number i c slot giver chosen_so); children = p.children; arguments = p.arguments })
 
     pub beside_there : (i ≡ slot) ⊎ (i ≡ suc slot)

@@ -1,4 +1,4 @@
--- A node whose children stay, but for two siblings that become two others, or one.
+-- A node keeps its children, except for two siblings that become two others, or one.
 use Rattle.std.proofs.Common.{◌≡◌, ℕ, zero, suc, ◌+◌, ◌<◌, ◌≤◌, inl, inr, ◌⊎◌, true, false, cond, List, [], ◌∷◌, ◌++◌, length, map, get_or, take, drop, refl, sym, ap, subst, ◌∙◌, arith, add-one, Option, Some, eqb, length-append, slice_get, slice_set}
 use Rattle.std.specs.declared.cmp.Ordering.{Ordering}
 use Rattle.std.specs.declared.cmp.Ordering.TheVariants.{Less}
@@ -17,17 +17,17 @@ use Rattle.bptree_keys.specs.declared.node_id.InnerNodeId.{InnerNodeId}
 use Rattle.bptree_keys.specs.declared.node_id.LeafNodeId.{LeafNodeId}
 use Rattle.bptree_keys.specs.declared.node_id.NodeId.{NodeId}
 use Rattle.bptree_keys.specs.declared.node_id.NodeId.TheVariants as kind
-use Rattle.bptree_shape.specs.Edit.{IsLocal, CanReach, Turn, Spares, SameLinks, Extends, LinksAt, pairs_after, leaf_count_after, inner_count_after, TreeAfter, SummedAfter, Edits}
+use Rattle.bptree_invariant.specs.Edit.{IsLocal, CanReach, Turn, Spares, SameLinks, Extends, LinksAt, pairs_after, leaf_count_after, inner_count_after, TreeAfter, SummedAfter, Edits}
 use Rattle.bptree_rebalancing.specs.Rebalance.{RebalancesPair}
-use Rattle.bptree_shape.specs.Order.{flat, total, Within, Between, Chain, Leads}
-use Rattle.bptree_shape.specs.Outcome.{Outcome, Done, Split}
-use Rattle.bptree_shape.specs.Shape.{inner_keys, inner_children, pairs_at, leaves_at, leaf_count, inner_count, stands, IsTree, IsSummed}
+use Rattle.bptree_invariant.specs.Order.{flat, total, Within, Between, Chain, LeadsDown}
+use Rattle.bptree_invariant.specs.Outcome.{Outcome, Done, Split}
+use Rattle.bptree_invariant.specs.Shape.{inner_keys, inner_children, pairs_at, leaves_at, leaf_count, inner_count, stored, IsTree, IsSummed}
 use Rattle.bptree_rebalancing.specs.Transfer.{HasEntry}
-use Rattle.bptree_ascent.specs.Sums.{with_summary, with_split}
-use Rattle.bptree_shape.proofs.Agreeing.{stands_le, present_if_stands, Chain-so}
-use Rattle.bptree_shape.proofs.Frame.{EachBut, in_total, but_so, Same, all_same, same}
-use Rattle.bptree_shape.proofs.Ordered.{AtMost-up, AtLeast-up, less_then_up}
-use Rattle.bptree_shape.proofs.Widen.{tree_less, flat_around, flat_around_two, total_around, total_around_two, each_around, each_around_two, zip_around, zip_around_two, own_leaves, own_inners, child_place, rest, at_there, grown_done}
+use Rattle.bptree_propagation.specs.Sums.{with_summary, with_split}
+use Rattle.bptree_invariant.proofs.Agreeing.{stored_le, present_if_stored, Chain-so}
+use Rattle.bptree_invariant.proofs.Frame.{EachBut, in_total, but_so, Same, all_same, same}
+use Rattle.bptree_invariant.proofs.Ordered.{AtMost-up, AtLeast-up, less_then_up}
+use Rattle.bptree_invariant.proofs.Widen.{tree_less, flat_around, flat_around_two, total_around, total_around_two, each_around, each_around_two, zip_around, zip_around_two, own_leaves, own_inners, child_index, rest, at_there, grown_done}
 
 module _ {X : Type 0} where
   pub every : (P : X → Type 0) (ys : List X) (n : ℕ) (d : X) → AllByRecursion P ys → n < length ys → P (get_or ys n d)
@@ -62,7 +62,7 @@ module _ {X : Type 0} where
   all_without P [] (suc i) y below all = absurd (omega arith)
   all_without P (x ∷ xs) (suc i) y below all = let r = all_without P xs i y (omega arith) all.1 in ((all.0, r.0), r.1)
 
--- values that go with the members still do without one of both
+-- if a relation holds between the members of two lists, it does without one member of each
 pub zip_without : {A C Y : Type 0} (R : A → Y → Type 0) (f : C → Y) (xs : List A) (cs : List C) (i : ℕ) (a : A) (y : C) → i ≤ length cs → i ≤ length xs → AllZip R (insert xs i a) (map f (insert cs i y)) → AllZip R xs (map f cs)
 zip_without R f xs cs zero a y below under zip = zip.1
 zip_without R f xs [] (suc i) a y below under zip = absurd (omega arith)
@@ -70,14 +70,14 @@ zip_without R f [] (c ∷ cs) (suc i) a y below under zip = absurd (omega arith)
 zip_without R f (x ∷ xs) (c ∷ cs) (suc i) a y below under zip = (zip.0, zip_without R f xs cs i a y (omega arith) (omega arith) zip.1)
 
 module _ {K : Type 0} (cmp : K → K → Ordering) (k : K) where
-  -- a key that goes to the child before a separator is below it
-  pub leads_left : (ks : List K) (i : ℕ) (s : K) → i ≤ length ks → Leads cmp k (insert ks i s) i → cmp k s ≡ Less
+  -- a key that leads to the child before a separator is less than the separator
+  pub leads_left : (ks : List K) (i : ℕ) (s : K) → i ≤ length ks → LeadsDown cmp k (insert ks i s) i → cmp k s ≡ Less
   leads_left ks zero s below leads = leads
   leads_left [] (suc i) s below leads = absurd (omega arith)
   leads_left (x ∷ ks) (suc i) s below leads = leads_left ks i s (omega arith) leads.1
 
-  -- and one that goes to the child behind it is not
-  pub leads_right : (ks : List K) (i : ℕ) (s : K) → i ≤ length ks → Leads cmp k (insert ks i s) (suc i) → is_lt (cmp k s) ≡ false
+  -- a key that leads to the child behind a separator is not less than the separator
+  pub leads_right : (ks : List K) (i : ℕ) (s : K) → i ≤ length ks → LeadsDown cmp k (insert ks i s) (suc i) → is_lt (cmp k s) ≡ false
   leads_right ks zero s below leads = leads.0
   leads_right [] (suc i) s below leads = absurd (omega arith)
   leads_right (x ∷ ks) (suc i) s below leads = leads_right ks i s (omega arith) leads.1
@@ -86,30 +86,30 @@ module _ {C K : Type 0} {cmp : K → K → Ordering} (total' : IsTotalOrder cmp)
   abbrev Holds : C → Type 0
   Holds c = (a b : Option K) → P c a b → Q c a b
 
-  -- two siblings merge, around a key that goes to one of them
+  -- two siblings merge, one of which a key leads to
   pub chain_merged : (ks : List K) (cs : List C) (lo hi : Option K) (i j : ℕ) (d y : C) (s : K) → i ≤ length ks → Chain cmp P (insert ks i s) (insert cs (suc i) y) lo hi → i < length cs → EachBut Holds cs i
-      → Leads cmp k (insert ks i s) j → (j ≡ i) ⊎ (j ≡ suc i) → Within cmp lo hi k
+      → LeadsDown cmp k (insert ks i s) j → (j ≡ i) ⊎ (j ≡ suc i) → Within cmp lo hi k
       → ((a b : Option K) → P (get_or cs i d) a (Some s) → Between cmp a b s → P y (Some s) b → Within cmp a b k → Q (get_or cs i d) a b) → Chain cmp Q ks cs lo hi
   chain_merged ks [] lo hi i j d y s within h below all leads at w new = absurd (omega arith)
   chain_merged [] (c ∷ []) lo hi zero j d y s within h below all leads at w new = new lo hi h.0 h.1 h.2 w
   chain_merged [] (c ∷ e ∷ cs) lo hi zero j d y s within h below all leads at w new = absurd h.2
   chain_merged (t ∷ ts) (c ∷ cs) lo hi zero j d y s within h below all leads at w new =
-      let under : cmp k t ≡ Less = elim at [ inl e ↦ less_then_up total' k s t (subst (λ n. Leads cmp k (s ∷ t ∷ ts) n) e leads) h.2.1.0 | inr e ↦ (subst (λ n. Leads cmp k (s ∷ t ∷ ts) n) e leads).1 ] in
+      let under : cmp k t ≡ Less = elim at [ inl e ↦ less_then_up total' k s t (subst (λ n. LeadsDown cmp k (s ∷ t ∷ ts) n) e leads) h.2.1.0 | inr e ↦ (subst (λ n. LeadsDown cmp k (s ∷ t ∷ ts) n) e leads).1 ] in
       (new lo (Some t) h.0 (h.1.0, h.2.1.0) h.2.0 (w.0, under), (AtLeast-up total' lo s t h.1.0 h.2.1.0, h.2.1.1), Chain-so cmp P Q ts cs (Some t) hi all h.2.2)
   chain_merged [] (c ∷ cs) lo hi (suc i) j d y s within h below all leads at w new = absurd (omega arith)
   chain_merged (t ∷ ts) (c ∷ cs) lo hi (suc i) zero d y s within h below all leads at w new = absurd (elim at [ inl e ↦ omega arith | inr e ↦ omega arith ])
   chain_merged (t ∷ ts) (c ∷ cs) lo hi (suc i) (suc j) d y s within h below all leads at w new =
       (all.0 lo (Some t) h.0, h.1, chain_merged ts cs (Some t) hi i j d y s (omega arith) h.2 (omega arith) all.1 leads.1 (elim at [ inl e ↦ inl (omega arith) | inr e ↦ inr (omega arith) ]) (leads.0, w.1) new)
 
-  -- they become two others, with another separator
+  -- two siblings become two others, with another separator
   pub chain_rotated : (ks : List K) (cs : List C) (lo hi : Option K) (i j : ℕ) (d y : C) (s u : K) → i ≤ length ks → Chain cmp P (insert ks i s) (insert cs (suc i) y) lo hi → i < length cs → EachBut Holds cs i
-      → Leads cmp k (insert ks i s) j → (j ≡ i) ⊎ (j ≡ suc i) → Within cmp lo hi k
+      → LeadsDown cmp k (insert ks i s) j → (j ≡ i) ⊎ (j ≡ suc i) → Within cmp lo hi k
       → ((a b : Option K) → P (get_or cs i d) a (Some s) → Between cmp a b s → P y (Some s) b → Within cmp a b k → Q (get_or cs i d) a (Some u) × Between cmp a b u × Q y (Some u) b) → Chain cmp Q (insert ks i u) (insert cs (suc i) y) lo hi
   chain_rotated ks [] lo hi i j d y s u within h below all leads at w new = absurd (omega arith)
   chain_rotated [] (c ∷ []) lo hi zero j d y s u within h below all leads at w new = new lo hi h.0 h.1 h.2 w
   chain_rotated [] (c ∷ e ∷ cs) lo hi zero j d y s u within h below all leads at w new = absurd h.2
   chain_rotated (t ∷ ts) (c ∷ cs) lo hi zero j d y s u within h below all leads at w new =
-      let under : cmp k t ≡ Less = elim at [ inl e ↦ less_then_up total' k s t (subst (λ n. Leads cmp k (s ∷ t ∷ ts) n) e leads) h.2.1.0 | inr e ↦ (subst (λ n. Leads cmp k (s ∷ t ∷ ts) n) e leads).1 ] in
+      let under : cmp k t ≡ Less = elim at [ inl e ↦ less_then_up total' k s t (subst (λ n. LeadsDown cmp k (s ∷ t ∷ ts) n) e leads) h.2.1.0 | inr e ↦ (subst (λ n. LeadsDown cmp k (s ∷ t ∷ ts) n) e leads).1 ] in
       let x = new lo (Some t) h.0 (h.1.0, h.2.1.0) h.2.0 (w.0, under) in
       (x.0, (x.1.0, AtMost-up total' hi u t h.2.1.1 x.1.1), (x.2, (x.1.1, h.2.1.1), Chain-so cmp P Q ts cs (Some t) hi all h.2.2))
   chain_rotated [] (c ∷ cs) lo hi (suc i) j d y s u within h below all leads at w new = absurd (omega arith)
@@ -117,14 +117,14 @@ module _ {C K : Type 0} {cmp : K → K → Ordering} (total' : IsTotalOrder cmp)
   chain_rotated (t ∷ ts) (c ∷ cs) lo hi (suc i) (suc j) d y s u within h below all leads at w new =
       (all.0 lo (Some t) h.0, h.1, chain_rotated ts cs (Some t) hi i j d y s u (omega arith) h.2 (omega arith) all.1 leads.1 (elim at [ inl e ↦ inl (omega arith) | inr e ↦ inr (omega arith) ]) (leads.0, w.1) new)
 
--- two siblings, one of which a key goes to, and the bounds around both
+-- two siblings, one of which a key leads to, and the bounds around both
 pub chain_two : {C K : Type 0} {cmp : K → K → Ordering} (total' : IsTotalOrder cmp) (P : C → Option K → Option K → Type 0) (k : K) (ks : List K) (cs : List C) (lo hi : Option K) (i j : ℕ) (d y : C) (s : K) → i ≤ length ks → Chain cmp P (insert ks i s) (insert cs (suc i) y) lo hi → i < length cs
-    → Leads cmp k (insert ks i s) j → (j ≡ i) ⊎ (j ≡ suc i) → Within cmp lo hi k → (a : Option K) × (b : Option K) × P (get_or cs i d) a (Some s) × Between cmp a b s × P y (Some s) b × Within cmp a b k
+    → LeadsDown cmp k (insert ks i s) j → (j ≡ i) ⊎ (j ≡ suc i) → Within cmp lo hi k → (a : Option K) × (b : Option K) × P (get_or cs i d) a (Some s) × Between cmp a b s × P y (Some s) b × Within cmp a b k
 chain_two total' P k ks [] lo hi i j d y s within h below leads at w = absurd (omega arith)
 chain_two total' P k [] (c ∷ []) lo hi zero j d y s within h below leads at w = (lo, hi, h.0, h.1, h.2, w)
 chain_two total' P k [] (c ∷ e ∷ cs) lo hi zero j d y s within h below leads at w = absurd h.2
 chain_two {cmp = cmp} total' P k (t ∷ ts) (c ∷ cs) lo hi zero j d y s within h below leads at w =
-    let under : cmp k t ≡ Less = elim at [ inl e ↦ less_then_up total' k s t (subst (λ n. Leads cmp k (s ∷ t ∷ ts) n) e leads) h.2.1.0 | inr e ↦ (subst (λ n. Leads cmp k (s ∷ t ∷ ts) n) e leads).1 ] in
+    let under : cmp k t ≡ Less = elim at [ inl e ↦ less_then_up total' k s t (subst (λ n. LeadsDown cmp k (s ∷ t ∷ ts) n) e leads) h.2.1.0 | inr e ↦ (subst (λ n. LeadsDown cmp k (s ∷ t ∷ ts) n) e leads).1 ] in
     (lo, Some t, h.0, (h.1.0, h.2.1.0), h.2.0, (w.0, under))
 chain_two total' P k [] (c ∷ cs) lo hi (suc i) j d y s within h below leads at w = absurd (omega arith)
 chain_two total' P k (t ∷ ts) (c ∷ cs) lo hi (suc i) zero d y s within h below leads at w = absurd (elim at [ inl e ↦ omega arith | inr e ↦ omega arith ])
@@ -132,29 +132,29 @@ chain_two total' P k (t ∷ ts) (c ∷ cs) lo hi (suc i) (suc j) d y s within h 
     chain_two total' P k ts cs (Some t) hi i j d y s (omega arith) h.2 (omega arith) leads.1 (elim at [ inl e ↦ inl (omega arith) | inr e ↦ inr (omega arith) ]) (leads.0, w.1)
 
 module _ {K V A : Type 0} (cmp : K → K → Ordering) (is_summary : A → List K → Type 0) (old new : Slots (Inner K A) (Leaf K V)) where
-  -- where two of several trees may have changed, the others read the same
+  -- if two of several trees may have changed, the others read the same
   pub others_same_two : (h : ℕ) (cs : List NodeId) (i : ℕ) (d y : NodeId) → i < length cs
-      → ((n : ℕ) → total (λ c. leaf_count old h c n) cs + leaf_count old h y n ≤ stands (old.leaf n)) → ((n : ℕ) → total (λ c. inner_count old h c n) cs + inner_count old h y n ≤ stands (old.inner n))
+      → ((n : ℕ) → total (λ c. leaf_count old h c n) cs + leaf_count old h y n ≤ stored (old.leaf n)) → ((n : ℕ) → total (λ c. inner_count old h c n) cs + inner_count old h y n ≤ stored (old.inner n))
       → ((n : ℕ) → leaf_count old h (get_or cs i d) n ≡ 0 → leaf_count old h y n ≡ 0 → IsPresent (old.leaf n) → new.leaf n ≡ old.leaf n)
       → ((n : ℕ) → 1 ≤ total (λ c. inner_count old h c n) cs → inner_count old h (get_or cs i d) n ≡ 0 → inner_count old h y n ≡ 0 → IsPresent (old.inner n) → new.inner n ≡ old.inner n)
       → EachBut (Same cmp is_summary old new h) cs i
   others_same_two h [] i d y below l m a b = tt
   others_same_two h (c ∷ cs) zero d y below l m a b =
       all_same cmp is_summary old new h cs (
-        (λ n some. a n (omega (arith, l n, stands_le (old.leaf n))) (omega (arith, l n, stands_le (old.leaf n))) (present_if_stands (old.leaf n) (omega (arith, l n)))),
-        (λ n some. b n (omega arith) (omega (arith, m n, stands_le (old.inner n))) (omega (arith, m n, stands_le (old.inner n))) (present_if_stands (old.inner n) (omega (arith, m n)))),
+        (λ n some. a n (omega (arith, l n, stored_le (old.leaf n))) (omega (arith, l n, stored_le (old.leaf n))) (present_if_stored (old.leaf n) (omega (arith, l n)))),
+        (λ n some. b n (omega arith) (omega (arith, m n, stored_le (old.inner n))) (omega (arith, m n, stored_le (old.inner n))) (present_if_stored (old.inner n) (omega (arith, m n)))),
       )
   others_same_two h (c ∷ cs) (suc i) d y below l m a b = (
     same cmp is_summary old new h c (
-      (λ n some. a n (omega (arith, l n, stands_le (old.leaf n), in_total (λ c. leaf_count old h c n) cs i d (omega arith))) (omega (arith, l n, stands_le (old.leaf n))) (present_if_stands (old.leaf n) (omega (arith, l n)))),
-      (λ n some. b n (omega arith) (omega (arith, m n, stands_le (old.inner n), in_total (λ c. inner_count old h c n) cs i d (omega arith))) (omega (arith, m n, stands_le (old.inner n))) (present_if_stands (old.inner n) (omega (arith, m n)))),
+      (λ n some. a n (omega (arith, l n, stored_le (old.leaf n), in_total (λ c. leaf_count old h c n) cs i d (omega arith))) (omega (arith, l n, stored_le (old.leaf n))) (present_if_stored (old.leaf n) (omega (arith, l n)))),
+      (λ n some. b n (omega arith) (omega (arith, m n, stored_le (old.inner n), in_total (λ c. inner_count old h c n) cs i d (omega arith))) (omega (arith, m n, stored_le (old.inner n))) (present_if_stored (old.inner n) (omega (arith, m n)))),
     ),
     others_same_two h cs i d y (omega arith) (λ n. omega (arith, l n)) (λ n. omega (arith, m n)) a (λ n some. b n (omega arith)),
   )
 
 module _ {K V A : Type 0} {cmp : K → K → Ordering} (total' : IsTotalOrder cmp) (is_summary : A → List K → Type 0) (edit : List (K × V) → List (K × V)) (kept : ℕ) (old now after : Slots (Inner K A) (Leaf K V))
     (m : ℕ) (id : InnerNodeId) (k : K) (node : Inner K A) (i : ℕ) (child : NodeId) (leaf : LeafNodeId) (turn : Turn) (local : IsLocal cmp k edit)
-    (can : CanReach cmp old (suc m) (kind.Inner id) k) (is : old.inner id.0 ≡ Present node) (leads : Leads cmp k node.keys i) (read : slice_get node.children i ≡ Some child)
+    (can : CanReach cmp old (suc m) (kind.Inner id) k) (is : old.inner id.0 ≡ Present node) (leads : LeadsDown cmp k node.keys i) (read : slice_get node.children i ≡ Some child)
     (short : 15 ≤ kept) (at : Edits cmp is_summary edit kept old now m child k leaf turn Done)
     (bare : Inner K A) (slot : ℕ) (s : K) (right : NodeId) (old_r : A) (entry : HasEntry node bare slot s right old_r) (beside : (i ≡ slot) ⊎ (i ≡ suc slot)) where
   abbrev pub left : NodeId
@@ -170,13 +170,13 @@ module _ {K V A : Type 0} {cmp : K → K → Ordering} (total' : IsTotalOrder cm
   arguments_are = ap (λ (n : Inner K A). n.arguments) entry.is ∙ rw add-one refl
 
   below : slot < length bare.children
-  below = omega (arith, entry.place.within, entry.place.children)
+  below = omega (arith, entry.index.within, entry.index.children)
 
   there : get_or node.children i child ≡ child
   there = get_or_from_slice_get node.children i child child read
 
-  place : i < length node.children
-  place = child_place old m id k node i child can is leads
+  index : i < length node.children
+  index = child_index old m id k node i child can is leads
 
   siblings : EachBut (Same cmp is_summary old now m) node.children i
   siblings = rest total' is_summary edit kept old now m id k node i child leaf turn local can is leads read Done (at_there total' is_summary edit kept old now m id k node i child leaf turn local can is leads read Done at)
@@ -184,14 +184,14 @@ module _ {K V A : Type 0} {cmp : K → K → Ordering} (total' : IsTotalOrder cm
   long : length node.children ≡ length bare.children + 1
   long = ap length children_are ∙ length-insert bare.children (suc slot) right (omega (arith, below))
 
-  -- the one of the two that the key does not go to reads the same
+  -- the one of the two that the key does not lead to reads the same
   left_is : get_or node.children slot child ≡ left
   left_is = ap (λ cs. get_or cs slot child) children_are ∙ read_before bare.children slot right child below
 
   right_is : get_or node.children (suc slot) child ≡ right
   right_is = ap (λ cs. get_or cs (suc slot) child) children_are ∙ read_inserted bare.children (suc slot) right child (omega (arith, below))
 
-  -- what one of the two is before they rotate or merge
+  -- the state of one of the two before they rotate or merge
   record Before (c : NodeId) : Type 0 where
     pub no_leaf : (x : ℕ) → leaf_count old m c x ≡ 0 → IsPresent (old.leaf x) → leaf_count now m c x ≡ 0
     pub no_inner : (x : ℕ) → inner_count old m c x ≡ 0 → IsPresent (old.inner x) → inner_count now m c x ≡ 0
@@ -199,8 +199,8 @@ module _ {K V A : Type 0} {cmp : K → K → Ordering} (total' : IsTotalOrder cm
 
   edited : Before child
   edited = record {
-    no_leaf = λ x none some. omega (arith, at.leaves x, none, ap stands (at.other_leaves x none some));
-    no_inner = λ x none some. omega (arith, at.inners x, none, ap stands (at.other_inners x none some));
+    no_leaf = λ x none some. omega (arith, at.leaves x, none, ap stored (at.other_leaves x none some));
+    no_inner = λ x none some. omega (arith, at.inners x, none, ap stored (at.other_inners x none some));
     summed = at.summed;
   }
 
@@ -234,13 +234,13 @@ module _ {K V A : Type 0} {cmp : K → K → Ordering} (total' : IsTotalOrder cm
   pair_now a b l r w =
       elim beside [
         | inl e ↦ (
-          (let side : cmp k s ≡ Less = leads_left cmp k bare.keys slot s entry.place.within (subst (λ n. Leads cmp k (insert bare.keys slot s) n) e (subst (λ ks. Leads cmp k ks i) keys_are leads)) in
+          (let side : cmp k s ≡ Less = leads_left cmp k bare.keys slot s entry.index.within (subst (λ n. LeadsDown cmp k (insert bare.keys slot s) n) e (subst (λ ks. LeadsDown cmp k ks i) keys_are leads)) in
               subst (λ c. IsTree cmp now 15 m c a (Some s)) (child_left e) (at.tree 15 a (Some s) short (tree_less cmp old 16 15 m child a (Some s) (omega arith) (subst (λ c. IsTree cmp old 16 m c a (Some s)) (sym (child_left e)) l)) (w.0, side))),
           (same_right e).tree 15 (Some s) b (tree_less cmp old 16 15 m right (Some s) b (omega arith) r),
         )
         | inr e ↦ (
           (same_left e).tree 15 a (Some s) (tree_less cmp old 16 15 m left a (Some s) (omega arith) l),
-          (let side : is_lt (cmp k s) ≡ false = leads_right cmp k bare.keys slot s entry.place.within (subst (λ n. Leads cmp k (insert bare.keys slot s) n) e (subst (λ ks. Leads cmp k ks i) keys_are leads)) in
+          (let side : is_lt (cmp k s) ≡ false = leads_right cmp k bare.keys slot s entry.index.within (subst (λ n. LeadsDown cmp k (insert bare.keys slot s) n) e (subst (λ ks. LeadsDown cmp k ks i) keys_are leads)) in
               subst (λ c. IsTree cmp now 15 m c (Some s) b) (child_right e) (at.tree 15 (Some s) b short (tree_less cmp old 16 15 m child (Some s) b (omega arith) (subst (λ c. IsTree cmp old 16 m c (Some s) b) (sym (child_right e)) r)) (side, w.1))),
         )
       ]
@@ -257,10 +257,10 @@ module _ {K V A : Type 0} {cmp : K → K → Ordering} (total' : IsTotalOrder cm
   count_inners_now : (x : ℕ) → total (λ c. inner_count now m c x) node.children ≡ total (λ c. inner_count now m c x) bare.children + inner_count now m right x
   count_inners_now x = ap (total (λ c. inner_count now m c x)) children_are ∙ total_insert (λ c. inner_count now m c x) bare.children (suc slot) right (omega (arith, below))
 
-  own_leaf : (x : ℕ) → total (λ c. leaf_count old m c x) bare.children + leaf_count old m right x ≤ stands (old.leaf x)
+  own_leaf : (x : ℕ) → total (λ c. leaf_count old m c x) bare.children + leaf_count old m right x ≤ stored (old.leaf x)
   own_leaf x = omega (arith, count_leaves_old x, own_leaves old m id k node i child can is leads x)
 
-  own_inner : (x : ℕ) → cond (eqb id.0 x) 1 0 + (total (λ c. inner_count old m c x) bare.children + inner_count old m right x) ≤ stands (old.inner x)
+  own_inner : (x : ℕ) → cond (eqb id.0 x) 1 0 + (total (λ c. inner_count old m c x) bare.children + inner_count old m right x) ≤ stored (old.inner x)
   own_inner x = omega (arith, count_inners_old x, own_inners old m id k node i child can is leads x)
 
   -- the child reaches no more than the two
@@ -284,22 +284,22 @@ module _ {K V A : Type 0} {cmp : K → K → Ordering} (total' : IsTotalOrder cm
     others_after : EachBut (Same cmp is_summary old after m) bare.children slot
     others_after =
         others_same_two cmp is_summary old after m bare.children slot child right below own_leaf (λ x. omega (arith, own_inner x)) leaf_stays
-        (λ x reached l r some. inner_stays x (λ q. let e : eqb id.0 x ≡ true = eq-eqb id.0 x (sym q) in let o = rw e at (own_inner x) in omega (arith, o, stands_le (old.inner x), reached)) l r some)
+        (λ x reached l r some. inner_stays x (λ q. let e : eqb id.0 x ≡ true = eq-eqb id.0 x (sym q) in let o = rw e at (own_inner x) in omega (arith, o, stored_le (old.inner x), reached)) l r some)
 
     pub pair_after : (a b : Option K) → IsTree cmp old 16 m left a (Some s) → Between cmp a b s → IsTree cmp old 16 m right (Some s) b → Within cmp a b k → TreeAfter cmp after m left 16 a b outcome
     pair_after a b l t r w = let p = pair_now a b l r w in rebalances.tree a b p.0 t p.1
 
-    -- the parts of all pairs: those of the two now, and the others as they were
+    -- all pairs are those of the two now, and those of the others as they were
     pairs_now : flat (pairs_at now m) node.children ≡ edit (flat (pairs_at old m) node.children)
     pairs_now = (grown_done total' is_summary edit kept old now m id k node i child leaf turn local can is leads read 15 short (omega arith) at).pairs
 
     pub pairs_unmerged : flat (pairs_at now m) node.children ≡ flat (pairs_at old m) (take slot bare.children) ++ ((pairs_at now m left ++ pairs_at now m right) ++ flat (pairs_at old m) (drop (suc slot) bare.children))
     pairs_unmerged = ap (flat (pairs_at now m)) children_are ∙ flat_around_two (pairs_at old m) (pairs_at now m) bare.children slot child right below (but_so _ _ (λ c x. x.pairs) bare.children slot others_now)
 
-    grown : (x : ℕ) → total (λ c. leaf_count now m c x) node.children + stands (old.leaf x) ≡ total (λ c. leaf_count old m c x) node.children + stands (now.leaf x)
+    grown : (x : ℕ) → total (λ c. leaf_count now m c x) node.children + stored (old.leaf x) ≡ total (λ c. leaf_count old m c x) node.children + stored (now.leaf x)
     grown x = (grown_done total' is_summary edit kept old now m id k node i child leaf turn local can is leads read 15 short (omega arith) at).leaves x
 
-    grown_inners : (x : ℕ) → total (λ c. inner_count now m c x) node.children + stands (old.inner x) ≡ total (λ c. inner_count old m c x) node.children + stands (now.inner x)
+    grown_inners : (x : ℕ) → total (λ c. inner_count now m c x) node.children + stored (old.inner x) ≡ total (λ c. inner_count old m c x) node.children + stored (now.inner x)
     grown_inners x = (grown_done total' is_summary edit kept old now m id k node i child leaf turn local can is leads read 15 short (omega arith) at).inners x
 
     leaves_now : (x : ℕ) → total (λ c. leaf_count now m c x) bare.children + leaf_count old m left x ≡ total (λ c. leaf_count old m c x) bare.children + leaf_count now m left x
@@ -320,7 +320,7 @@ module _ {K V A : Type 0} {cmp : K → K → Ordering} (total' : IsTotalOrder cm
     old_zip : IsSummed old is_summary (suc m) (kind.Inner id) → AllZip is_summary bare.arguments (map (λ c. keys_of (pairs_at old m c)) bare.children)
     old_zip h =
         let both : AllZip is_summary node.arguments (map (λ c. keys_of (pairs_at old m c)) node.children) × AllByRecursion (IsSummed old is_summary m) node.children = rw is at h in
-        zip_without is_summary (λ c. keys_of (pairs_at old m c)) bare.arguments bare.children (suc slot) old_r right (omega (arith, below)) (omega (arith, below, entry.place.arguments))
+        zip_without is_summary (λ c. keys_of (pairs_at old m c)) bare.arguments bare.children (suc slot) old_r right (omega (arith, below)) (omega (arith, below, entry.index.arguments))
         (subst (λ cs. AllZip is_summary (insert bare.arguments (suc slot) old_r) (map (λ c. keys_of (pairs_at old m c)) cs)) children_are (subst (λ xs. AllZip is_summary xs (map (λ c. keys_of (pairs_at old m c)) node.children)) arguments_are both.0))
 
     old_each : IsSummed old is_summary (suc m) (kind.Inner id) → AllByRecursion (IsSummed old is_summary m) bare.children × IsSummed old is_summary m right
@@ -328,8 +328,8 @@ module _ {K V A : Type 0} {cmp : K → K → Ordering} (total' : IsTotalOrder cm
         let both : AllZip is_summary node.arguments (map (λ c. keys_of (pairs_at old m c)) node.children) × AllByRecursion (IsSummed old is_summary m) node.children = rw is at h in
         all_without (IsSummed old is_summary m) bare.children (suc slot) right (omega (arith, below)) (subst (AllByRecursion (IsSummed old is_summary m)) children_are both.1)
 
-    leads_here : Leads cmp k (insert bare.keys slot s) i
-    leads_here = subst (λ ks. Leads cmp k ks i) keys_are leads
+    leads_here : LeadsDown cmp k (insert bare.keys slot s) i
+    leads_here = subst (λ ks. LeadsDown cmp k ks i) keys_are leads
 
     none_leaf : (x : ℕ) → leaf_count old (suc m) (kind.Inner id) x ≡ 0 → total (λ c. leaf_count old m c x) bare.children + leaf_count old m right x ≡ 0
     none_leaf x none = let z = rw is at none in omega (arith, z, count_leaves_old x)
@@ -347,10 +347,10 @@ module _ {K V A : Type 0} {cmp : K → K → Ordering} (total' : IsTotalOrder cm
     kept_inner x none some =
         inner_stays x (far_from x none) (omega (arith, none_inner x none, in_total (λ c. inner_count old m c x) bare.children slot child below)) (omega (arith, none_inner x none)) some
 
-    -- what they are then, within the bounds around both
+    -- the two after the change are trees within the bounds around both
     pub pair_tree : (a : Option K) × (b : Option K) × TreeAfter cmp after m left 16 a b outcome
     pair_tree =
-        let u = chain_two total' (IsTree cmp old 16 m) k bare.keys bare.children can.low can.high slot i child right s entry.place.within (old_chain can.low can.high can.least can.tree) below leads_here beside can.fits in
+        let u = chain_two total' (IsTree cmp old 16 m) k bare.keys bare.children can.low can.high slot i child right s entry.index.within (old_chain can.low can.high can.least can.tree) below leads_here beside can.fits in
         (u.0, u.1, pair_after u.0 u.1 u.2 u.3 u.4 u.5)
 
     pub pair_summed : IsSummed old is_summary (suc m) (kind.Inner id) → SummedAfter after m left is_summary outcome
@@ -369,14 +369,14 @@ module _ {K V A : Type 0} {cmp : K → K → Ordering} (total' : IsTotalOrder cm
           length-append (pairs_at now m left ++ pairs_at now m right) (flat (pairs_at old m) (drop (suc slot) bare.children)),
         ))
 
-    -- how the leaves stand in order then, and what links they have
+    -- the order of the leaves after the change, and their links
     pub record Ordered (leaf' : LeafNodeId) (turn' : Turn) (cs : List NodeId) : Type 0 where
       pub order : Extends (flat (leaves_at old m) node.children) leaf' turn' (flat (leaves_at after m) cs)
       pub links : LinksAt old after leaf' turn'
       pub untouched : (x : LeafNodeId) → (x.0 ≡ leaf'.0 → ⊥) → Spares turn' x.0 → IsPresent (old.leaf x.0) → SameLinks old after x × IsPresent (after.leaf x.0)
 
-  -- what the two reach is theirs alone
-  pub pair_own : (x : ℕ) → cond (eqb id.0 x) 1 0 + (inner_count now m left x + inner_count now m right x) ≤ stands (now.inner x)
+  -- each inner node that the two reach is reached once
+  pub pair_own : (x : ℕ) → cond (eqb id.0 x) 1 0 + (inner_count now m left x + inner_count now m right x) ≤ stored (now.inner x)
   pair_own x =
       omega (
         arith,
@@ -400,44 +400,44 @@ module _ {K V A : Type 0} {cmp : K → K → Ordering} (total' : IsTotalOrder cm
     pub order_after_two : flat (leaves_at after m) (insert bare.children (suc slot) right) ≡ flat (leaves_at old m) (take slot bare.children) ++ ((leaves_at after m left ++ leaves_at after m right) ++ flat (leaves_at old m) (drop (suc slot) bare.children))
     order_after_two = flat_around_two (leaves_at old m) (leaves_at after m) bare.children slot child right below (but_so _ _ (λ c x. x.order) bare.children slot (others_after outcome rebalances))
 
-    -- what all children count then, by what the others do and what came of the two
-    leaves_so : (x there : ℕ) → there + leaf_count old m left x ≡ total (λ c. leaf_count old m c x) bare.children + leaf_count_after after m left outcome x → there + stands (old.leaf x) ≡ total (λ c. leaf_count old m c x) node.children + stands (after.leaf x)
+    -- the leaves that all children count after the change, from those of the others and of the two
+    leaves_so : (x there : ℕ) → there + leaf_count old m left x ≡ total (λ c. leaf_count old m c x) bare.children + leaf_count_after after m left outcome x → there + stored (old.leaf x) ≡ total (λ c. leaf_count old m c x) node.children + stored (after.leaf x)
     leaves_so x there e = omega (arith, e, leaves_now outcome rebalances x, grown outcome rebalances x, count_leaves_now x, rebalances.leaves x)
 
-    inners_so : (x there : ℕ) → (x ≡ id.0 → ⊥) → there + inner_count old m left x ≡ total (λ c. inner_count old m c x) bare.children + inner_count_after after m left outcome x → there + stands (old.inner x) ≡ total (λ c. inner_count old m c x) node.children + stands (after.inner x)
+    inners_so : (x there : ℕ) → (x ≡ id.0 → ⊥) → there + inner_count old m left x ≡ total (λ c. inner_count old m c x) bare.children + inner_count_after after m left outcome x → there + stored (old.inner x) ≡ total (λ c. inner_count old m c x) node.children + stored (after.inner x)
     inners_so x there far e = omega (arith, e, inners_now outcome rebalances x, grown_inners outcome rebalances x, count_inners_now x, rebalances.inners x far)
 
     none_above : (there : ℕ) → there + inner_count old m left id.0 ≡ total (λ c. inner_count old m c id.0) bare.children + inner_count_after after m left outcome id.0 → there ≡ 0
     none_above there e =
         let own_one = rw (eq-eqb id.0 id.0 refl) at (own_inner id.0) in
-        omega (arith, e, own_one, stands_le (old.inner id.0), in_total (λ c. inner_count old m c id.0) bare.children slot child below, rebalances.above)
+        omega (arith, e, own_one, stored_le (old.inner id.0), in_total (λ c. inner_count old m c id.0) bare.children slot child below, rebalances.above)
 
-  -- and with the node itself, which stands as before
-  with_own : (at : Inner K A) → after.inner id.0 ≡ Present at → (there : ℕ → ℕ) → there id.0 ≡ 0 → ((x : ℕ) → (x ≡ id.0 → ⊥) → there x + stands (old.inner x) ≡ total (λ c. inner_count old m c x) node.children + stands (after.inner x))
-      → (x : ℕ) → (cond (eqb id.0 x) 1 0 + there x) + stands (old.inner x) ≡ (cond (eqb id.0 x) 1 0 + total (λ c. inner_count old m c x) node.children) + stands (after.inner x)
+  -- the inner nodes are counted with the node itself, which is still present
+  with_own : (at : Inner K A) → after.inner id.0 ≡ Present at → (there : ℕ → ℕ) → there id.0 ≡ 0 → ((x : ℕ) → (x ≡ id.0 → ⊥) → there x + stored (old.inner x) ≡ total (λ c. inner_count old m c x) node.children + stored (after.inner x))
+      → (x : ℕ) → (cond (eqb id.0 x) 1 0 + there x) + stored (old.inner x) ≡ (cond (eqb id.0 x) 1 0 + total (λ c. inner_count old m c x) node.children) + stored (after.inner x)
   with_own at here there none so x =
       elim (eqb_tells id.0 x) [
         | inl h ↦ (rw h.0 (let own_one = rw (eq-eqb id.0 id.0 refl) at (own_inner id.0) in
-            let z : stands (after.inner x) ≡ 1 = ap (λ n. stands (after.inner n)) (sym h.1) ∙ ap stands here in
-            let y : stands (old.inner x) ≡ 1 = ap (λ n. stands (old.inner n)) (sym h.1) ∙ ap stands is in
+            let z : stored (after.inner x) ≡ 1 = ap (λ n. stored (after.inner n)) (sym h.1) ∙ ap stored here in
+            let y : stored (old.inner x) ≡ 1 = ap (λ n. stored (old.inner n)) (sym h.1) ∙ ap stored is in
             let gone : there x ≡ 0 = subst (λ n. there n ≡ 0) h.1 none in
-            let none_old : total (λ c. inner_count old m c x) node.children ≡ 0 = subst (λ n. total (λ c. inner_count old m c n) node.children ≡ 0) h.1 (omega (arith, own_one, stands_le (old.inner id.0), count_inners_old id.0)) in
+            let none_old : total (λ c. inner_count old m c x) node.children ≡ 0 = subst (λ n. total (λ c. inner_count old m c n) node.children ≡ 0) h.1 (omega (arith, own_one, stored_le (old.inner id.0), count_inners_old id.0)) in
             omega arith))
         | inr h ↦ (rw h.0 (omega (arith, so x (λ q. h.1 (sym q)))))
       ]
 
   -- the two merged
-  module _ (both : A) (rebalances : RebalancesPair cmp is_summary now after m id.0 left s right Done) (here : after.inner id.0 ≡ Present (with_summary bare slot both)) (told : is_summary both (keys_of (pairs_at after m left)))
+  module _ (both : A) (rebalances : RebalancesPair cmp is_summary now after m id.0 left s right Done) (here : after.inner id.0 ≡ Present (with_summary bare slot both)) (reported : is_summary both (keys_of (pairs_at after m left)))
       (most : ℕ) (low : most ≤ length bare.keys) (leaf' : LeafNodeId) (turn' : Turn) (ordered : Ordered Done rebalances leaf' turn' bare.children) where
     merged_chain : (lo hi : Option K) (least : ℕ) → IsTree cmp old least (suc m) (kind.Inner id) lo hi → Within cmp lo hi k → Chain cmp (IsTree cmp after 16 m) bare.keys bare.children lo hi
     merged_chain lo hi least t w =
-        chain_merged total' (IsTree cmp old 16 m) (IsTree cmp after 16 m) k bare.keys bare.children lo hi slot i child right s entry.place.within (old_chain Done rebalances lo hi least t) below
+        chain_merged total' (IsTree cmp old 16 m) (IsTree cmp after 16 m) k bare.keys bare.children lo hi slot i child right s entry.index.within (old_chain Done rebalances lo hi least t) below
         (but_so _ _ (λ c x a b. x.tree 16 a b) bare.children slot (others_after Done rebalances)) (leads_here Done rebalances) beside w (pair_after Done rebalances)
 
-    merged_leaves : (x : ℕ) → total (λ c. leaf_count after m c x) bare.children + stands (old.leaf x) ≡ total (λ c. leaf_count old m c x) node.children + stands (after.leaf x)
+    merged_leaves : (x : ℕ) → total (λ c. leaf_count after m c x) bare.children + stored (old.leaf x) ≡ total (λ c. leaf_count old m c x) node.children + stored (after.leaf x)
     merged_leaves x = leaves_so Done rebalances x _ (total_around (λ c. leaf_count old m c x) (λ c. leaf_count after m c x) bare.children slot child below (but_so _ _ (λ c y. y.leaves x) bare.children slot (others_after Done rebalances)))
 
-    merged_inners : (x : ℕ) → (x ≡ id.0 → ⊥) → total (λ c. inner_count after m c x) bare.children + stands (old.inner x) ≡ total (λ c. inner_count old m c x) node.children + stands (after.inner x)
+    merged_inners : (x : ℕ) → (x ≡ id.0 → ⊥) → total (λ c. inner_count after m c x) bare.children + stored (old.inner x) ≡ total (λ c. inner_count old m c x) node.children + stored (after.inner x)
     merged_inners x far = inners_so Done rebalances x _ far (total_around (λ c. inner_count old m c x) (λ c. inner_count after m c x) bare.children slot child below (but_so _ _ (λ c y. y.inners x) bare.children slot (others_after Done rebalances)))
 
     merged_above : total (λ c. inner_count after m c id.0) bare.children ≡ 0
@@ -447,7 +447,7 @@ module _ {K V A : Type 0} {cmp : K → K → Ordering} (total' : IsTotalOrder cm
     node_merged = record {
       tree = λ least lo hi under t w.
           let sizes = old_sizes Done rebalances lo hi least t in
-          rw here (tt, merged_chain lo hi least t w, omega (arith, low), omega (arith, sizes.1, ap length keys_are, length-insert bare.keys slot s entry.place.within));
+          rw here (tt, merged_chain lo hi least t w, omega (arith, low), omega (arith, sizes.1, ap length keys_are, length-insert bare.keys slot s entry.index.within));
       pairs = rw (here, is)
           (flat_around (pairs_at old m) (pairs_at after m) bare.children slot child below (but_so _ _ (λ c x. x.pairs) bare.children slot (others_after Done rebalances))
           ∙ (ap (λ l. flat (pairs_at old m) (take slot bare.children) ++ (l ++ flat (pairs_at old m) (drop (suc slot) bare.children))) rebalances.pairs
@@ -462,13 +462,13 @@ module _ {K V A : Type 0} {cmp : K → K → Ordering} (total' : IsTotalOrder cm
       summed = λ h.
           let each = old_each Done rebalances h in
           rw here (
-            zip_around is_summary (λ c. keys_of (pairs_at old m c)) (λ c. keys_of (pairs_at after m c)) bare.arguments bare.children slot child both below (old_zip Done rebalances h) (but_so _ _ (λ c x. ap keys_of x.pairs) bare.children slot (others_after Done rebalances)) told,
+            zip_around is_summary (λ c. keys_of (pairs_at old m c)) (λ c. keys_of (pairs_at after m c)) bare.arguments bare.children slot child both below (old_zip Done rebalances h) (but_so _ _ (λ c x. ap keys_of x.pairs) bare.children slot (others_after Done rebalances)) reported,
             each_around (IsSummed old is_summary m) (IsSummed after is_summary m) bare.children slot child below (but_so _ _ (λ c x. x.summed) bare.children slot (others_after Done rebalances))
                 (λ l. rebalances.summed (left_before.summed l) (right_before.summed each.1)) each.0,
           );
     }
 
-  -- they became two others
+  -- the two became two others
   module _ (l r : A) (up : K) (rebalances : RebalancesPair cmp is_summary now after m id.0 left s right (Split up right)) (here : after.inner id.0 ≡ Present (with_split bare slot l up right r))
       (left_told : is_summary l (keys_of (pairs_at after m left))) (right_told : is_summary r (keys_of (pairs_at after m right))) (most : ℕ) (leaf' : LeafNodeId) (turn' : Turn) (ordered : Ordered (Split up right) rebalances leaf' turn' (insert bare.children (suc slot) right)) where
     here_is : after.inner id.0 ≡ Present (record { keys = insert bare.keys slot up; children = insert bare.children (suc slot) right; arguments = insert (slice_set bare.arguments slot l) (suc slot) r })
@@ -476,13 +476,13 @@ module _ {K V A : Type 0} {cmp : K → K → Ordering} (total' : IsTotalOrder cm
 
     rotated_chain : (lo hi : Option K) (least : ℕ) → IsTree cmp old least (suc m) (kind.Inner id) lo hi → Within cmp lo hi k → Chain cmp (IsTree cmp after 16 m) (insert bare.keys slot up) (insert bare.children (suc slot) right) lo hi
     rotated_chain lo hi least t w =
-        chain_rotated total' (IsTree cmp old 16 m) (IsTree cmp after 16 m) k bare.keys bare.children lo hi slot i child right s up entry.place.within (old_chain (Split up right) rebalances lo hi least t) below
+        chain_rotated total' (IsTree cmp old 16 m) (IsTree cmp after 16 m) k bare.keys bare.children lo hi slot i child right s up entry.index.within (old_chain (Split up right) rebalances lo hi least t) below
         (but_so _ _ (λ c x a b. x.tree 16 a b) bare.children slot (others_after (Split up right) rebalances)) (leads_here (Split up right) rebalances) beside w (pair_after (Split up right) rebalances)
 
-    rotated_leaves : (x : ℕ) → total (λ c. leaf_count after m c x) (insert bare.children (suc slot) right) + stands (old.leaf x) ≡ total (λ c. leaf_count old m c x) node.children + stands (after.leaf x)
+    rotated_leaves : (x : ℕ) → total (λ c. leaf_count after m c x) (insert bare.children (suc slot) right) + stored (old.leaf x) ≡ total (λ c. leaf_count old m c x) node.children + stored (after.leaf x)
     rotated_leaves x = leaves_so (Split up right) rebalances x _ (total_around_two (λ c. leaf_count old m c x) (λ c. leaf_count after m c x) bare.children slot child right below (but_so _ _ (λ c y. y.leaves x) bare.children slot (others_after (Split up right) rebalances)))
 
-    rotated_inners : (x : ℕ) → (x ≡ id.0 → ⊥) → total (λ c. inner_count after m c x) (insert bare.children (suc slot) right) + stands (old.inner x) ≡ total (λ c. inner_count old m c x) node.children + stands (after.inner x)
+    rotated_inners : (x : ℕ) → (x ≡ id.0 → ⊥) → total (λ c. inner_count after m c x) (insert bare.children (suc slot) right) + stored (old.inner x) ≡ total (λ c. inner_count old m c x) node.children + stored (after.inner x)
     rotated_inners x far = inners_so (Split up right) rebalances x _ far (total_around_two (λ c. inner_count old m c x) (λ c. inner_count after m c x) bare.children slot child right below (but_so _ _ (λ c y. y.inners x) bare.children slot (others_after (Split up right) rebalances)))
 
     rotated_above : total (λ c. inner_count after m c id.0) (insert bare.children (suc slot) right) ≡ 0
@@ -492,7 +492,7 @@ module _ {K V A : Type 0} {cmp : K → K → Ordering} (total' : IsTotalOrder cm
     node_rotated = record {
       tree = λ least lo hi under t w.
           let sizes = old_sizes (Split up right) rebalances lo hi least t in
-          let wide : length (insert bare.keys slot up) ≡ length node.keys = length-insert bare.keys slot up entry.place.within ∙ sym (ap length keys_are ∙ length-insert bare.keys slot s entry.place.within) in
+          let wide : length (insert bare.keys slot up) ≡ length node.keys = length-insert bare.keys slot up entry.index.within ∙ sym (ap length keys_are ∙ length-insert bare.keys slot s entry.index.within) in
           rw here_is (tt, rotated_chain lo hi least t w, omega (arith, sizes.0, wide), omega (arith, sizes.1, wide));
       pairs = rw (here_is, is)
           (flat_around_two (pairs_at old m) (pairs_at after m) bare.children slot child right below (but_so _ _ (λ c x. x.pairs) bare.children slot (others_after (Split up right) rebalances))

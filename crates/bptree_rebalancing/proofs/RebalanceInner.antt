@@ -7,7 +7,7 @@ use Rattle.std.specs.Map.{keys_of}
 use Rattle.std.proofs.lemmas.Bool.{cases_eq, eq-eqb}
 use Rattle.std.proofs.lemmas.Bool.Decides.{eqb_tells}
 use Rattle.std.proofs.lemmas.List.{length-map, map-append}
-use Rattle.bptree_nodes.specs.Inner.{Inner, merged}
+use Rattle.bptree_nodes.specs.Inner.{Inner, merged_inner}
 use Rattle.bptree_nodes.specs.Leaf.{Leaf}
 use Rattle.bptree_nodes.specs.Slot.{Slot, Slots, Held, Present}
 use Rattle.bptree_keys.specs.declared.node_id.InnerNodeId.{InnerNodeId}
@@ -15,17 +15,17 @@ use Rattle.bptree_keys.specs.declared.node_id.NodeId.{NodeId}
 use Rattle.bptree_keys.specs.declared.node_id.NodeId.TheVariants as kind
 use Rattle.bptree_keys.proofs.PieceLemmas.{AllByRecursion-append, AllByRecursion-left, AllByRecursion-right, AllZip-append, AllZip-left, AllZip-right, AllByRecursion-weaker}
 use Rattle.bptree_rebalancing.specs.Rebalance.{RebalancesPair}
-use Rattle.bptree_shape.specs.Order.{flat, total, Between, Chain}
-use Rattle.bptree_shape.specs.Outcome.{Done, Split}
-use Rattle.bptree_shape.specs.Shape.{inner_keys, inner_children, pairs_at, leaves_at, leaf_count, inner_count, stands, IsTree, IsSummed}
+use Rattle.bptree_invariant.specs.Order.{flat, total, Between, Chain}
+use Rattle.bptree_invariant.specs.Outcome.{Done, Split}
+use Rattle.bptree_invariant.specs.Shape.{inner_keys, inner_children, pairs_at, leaves_at, leaf_count, inner_count, stored, IsTree, IsSummed}
 use Rattle.bptree_rebalancing.specs.Transfer.{MovesChild, MergesInner}
 use Rattle.bptree_rebalancing.specs.declared.rotate_merge.Sibling.{Sibling}
-use Rattle.bptree_shape.proofs.Agreeing.{stands_le, flat_same, total_same, map_same, each_keeps, Chain-so}
-use Rattle.bptree_shape.proofs.Frame.{Same, all_same}
-use Rattle.bptree_shape.proofs.Hinted.{total-append}
-use Rattle.bptree_ascent.proofs.Lift.{chain_cut}
-use Rattle.bptree_shape.proofs.Ordered.{AtMost-up}
-use Rattle.bptree_shape.proofs.Walk.{flat-append}
+use Rattle.bptree_invariant.proofs.Agreeing.{stored_le, flat_same, total_same, map_same, each_keeps, Chain-so}
+use Rattle.bptree_invariant.proofs.Frame.{Same, all_same}
+use Rattle.bptree_invariant.proofs.Hinted.{total-append}
+use Rattle.bptree_propagation.proofs.Lift.{chain_cut}
+use Rattle.bptree_invariant.proofs.Ordered.{AtMost-up}
+use Rattle.bptree_invariant.proofs.Walk.{flat-append}
 
 -- two chains with a separator between them are one
 pub chain_join : {C K : Type 0} {cmp : K → K → Ordering} (total' : IsTotalOrder cmp) (P : C → Option K → Option K → Type 0) (ks : List K) (s : K) (ls : List K) (cs ds : List C) (lo hi : Option K)
@@ -39,12 +39,12 @@ chain_join total' P (k ∷ ks) s ls (c ∷ cs) ds lo hi h b t =
 module _ {K V A : Type 0} {cmp : K → K → Ordering} (total' : IsTotalOrder cmp) (is_summary : A → List K → Type 0) (now after : Slots (Inner K A) (Leaf K V)) (h : ℕ) (id left right : InnerNodeId) (one other one' : Inner K A) (s : K)
     (at_left : now.inner left.0 ≡ Present one) (at_right : now.inner right.0 ≡ Present other) (is_left : after.inner left.0 ≡ Present one')
     (inners : (n : ℕ) → (n ≡ id.0 → ⊥) → (n ≡ left.0 → ⊥) → (n ≡ right.0 → ⊥) → after.inner n ≡ now.inner n) (leaf : after.leaf ≡ now.leaf) (apart : (left.0 ≡ right.0 → ⊥) × (left.0 ≡ id.0 → ⊥) × (right.0 ≡ id.0 → ⊥))
-    (own : (x : ℕ) → cond (eqb id.0 x) 1 0 + (inner_count now (suc h) (kind.Inner left) x + inner_count now (suc h) (kind.Inner right) x) ≤ stands (now.inner x)) where
+    (own : (x : ℕ) → cond (eqb id.0 x) 1 0 + (inner_count now (suc h) (kind.Inner left) x + inner_count now (suc h) (kind.Inner right) x) ≤ stored (now.inner x)) where
   abbrev all : List NodeId
   all = one.children ++ other.children
 
   own_parts : (x : ℕ) → cond (eqb id.0 x) 1 0 + (cond (eqb left.0 x) 1 0 + (cond (eqb right.0 x) 1 0 + total (λ c. inner_count now h c x) all)) ≤ 1
-  own_parts x = let o = rw (at_left, at_right) at (own x) in omega (arith, o, stands_le (now.inner x), total-append (λ c. inner_count now h c x) one.children other.children)
+  own_parts x = let o = rw (at_left, at_right) at (own x) in omega (arith, o, stored_le (now.inner x), total-append (λ c. inner_count now h c x) one.children other.children)
 
   inner_agrees : (x : ℕ) → 1 ≤ total (λ c. inner_count now h c x) all → after.inner x ≡ now.inner x
   inner_agrees x some =
@@ -71,14 +71,14 @@ module _ {K V A : Type 0} {cmp : K → K → Ordering} (total' : IsTotalOrder cm
   all_order : flat (leaves_at after h) all ≡ flat (leaves_at now h) one.children ++ flat (leaves_at now h) other.children
   all_order = flat_same (leaves_at now h) (leaves_at after h) all (AllByRecursion-weaker _ _ (λ c x. x.order) all same_all) ∙ flat-append (leaves_at now h) one.children other.children
 
-  leaf_stands : (x : ℕ) → stands (after.leaf x) ≡ stands (now.leaf x)
-  leaf_stands x = ap (λ (f : ℕ → Slot (Leaf K V)). stands (f x)) leaf
+  leaf_stored : (x : ℕ) → stored (after.leaf x) ≡ stored (now.leaf x)
+  leaf_stored x = ap (λ (f : ℕ → Slot (Leaf K V)). stored (f x)) leaf
 
-  left_stands : stands (now.inner left.0) ≡ 1
-  left_stands = ap stands at_left
+  left_stored : stored (now.inner left.0) ≡ 1
+  left_stored = ap stored at_left
 
-  right_stands : stands (now.inner right.0) ≡ 1
-  right_stands = ap stands at_right
+  right_stored : stored (now.inner right.0) ≡ 1
+  right_stored = ap stored at_right
 
   one_chain : (lo hi : Option K) → IsTree cmp now 15 (suc h) (kind.Inner left) lo hi → Chain cmp (IsTree cmp now 16 h) one.keys one.children lo hi × (15 ≤ length one.keys) × (length one.keys ≤ 64)
   one_chain lo hi t = let c = subst (λ (x : Slot (Inner K A)). Chain cmp (IsTree cmp now 16 h) (inner_keys x) (inner_children x) lo hi × (15 ≤ length (inner_keys x)) × (length (inner_keys x) ≤ 64)) at_left (t.1, t.2, t.3) in c
@@ -113,18 +113,18 @@ module _ {K V A : Type 0} {cmp : K → K → Ordering} (total' : IsTotalOrder cm
   not_right : ◌≡◌ {A = ℕ} (cond (eqb right.0 id.0) 1 0) 0
   not_right = elim (eqb_tells right.0 id.0) [ inl e ↦ absurd (apart.2 e.1) | inr e ↦ rw e.0 refl ]
 
-  -- they merge
+  -- the two nodes merge
   module _ (emptied : Inner K A) (is_right : after.inner right.0 ≡ Held) (merges : MergesInner one s other one' emptied) (fits : length one.keys + length other.keys < 64) where
-    is_merged : after.inner left.0 ≡ Present (merged one s other)
+    is_merged : after.inner left.0 ≡ Present (merged_inner one s other)
     is_merged = is_left ∙ ap Present merges.left_is
 
-    stands_merged : (n : ℕ) → (n ≡ id.0 → ⊥) → stands (now.inner n) ≡ cond (eqb right.0 n) 1 0 + stands (after.inner n)
-    stands_merged n far =
+    stored_merged : (n : ℕ) → (n ≡ id.0 → ⊥) → stored (now.inner n) ≡ cond (eqb right.0 n) 1 0 + stored (after.inner n)
+    stored_merged n far =
         elim (eqb_tells right.0 n) [
-          | inl e ↦ (let z : stands (now.inner n) ≡ 1 = ap (λ x. stands (now.inner x)) (sym e.1) ∙ right_stands in let y : stands (after.inner n) ≡ 0 = ap (λ x. stands (after.inner x)) (sym e.1) ∙ ap stands is_right in rw e.0 (omega arith))
+          | inl e ↦ (let z : stored (now.inner n) ≡ 1 = ap (λ x. stored (now.inner x)) (sym e.1) ∙ right_stored in let y : stored (after.inner n) ≡ 0 = ap (λ x. stored (after.inner x)) (sym e.1) ∙ ap stored is_right in rw e.0 (omega arith))
           | inr e ↦ (rw e.0 (elim (eqb_tells left.0 n) [
-            | inl l ↦ (let z : stands (now.inner n) ≡ 1 = ap (λ x. stands (now.inner x)) (sym l.1) ∙ left_stands in let y : stands (after.inner n) ≡ 1 = ap (λ x. stands (after.inner x)) (sym l.1) ∙ ap stands is_left in omega arith)
-            | inr l ↦ (let z = ap stands (inners n far (λ q. l.1 (sym q)) (λ q. e.1 (sym q))) in omega arith)
+            | inl l ↦ (let z : stored (now.inner n) ≡ 1 = ap (λ x. stored (now.inner x)) (sym l.1) ∙ left_stored in let y : stored (after.inner n) ≡ 1 = ap (λ x. stored (after.inner x)) (sym l.1) ∙ ap stored is_left in omega arith)
+            | inr l ↦ (let z = ap stored (inners n far (λ q. l.1 (sym q)) (λ q. e.1 (sym q))) in omega arith)
           ]))
         ]
 
@@ -138,21 +138,21 @@ module _ {K V A : Type 0} {cmp : K → K → Ordering} (total' : IsTotalOrder cm
           let y = other_chain (Some s) hi r in
           rw is_merged (tt, whole_chain lo hi l b r, omega (arith, x.1, y.1, length-append one.keys (s ∷ other.keys)), omega (arith, fits, length-append one.keys (s ∷ other.keys)));
       pairs = rw (is_merged, at_left, at_right) all_pairs;
-      leaves = λ n. rw (is_merged, at_left, at_right) (omega (arith, all_leaves n, leaf_stands n));
-      inners = λ n far. rw (is_merged, at_left, at_right) (omega (arith, all_inners n, stands_merged n far));
+      leaves = λ n. rw (is_merged, at_left, at_right) (omega (arith, all_leaves n, leaf_stored n));
+      inners = λ n far. rw (is_merged, at_left, at_right) (omega (arith, all_inners n, stored_merged n far));
       above = rw is_merged (omega (arith, not_left, all_inners id.0, none_above, total-append (λ c. inner_count now h c id.0) one.children other.children));
       other_leaves = λ n l r. ap (λ (f : ℕ → Slot (Leaf K V)). f n) leaf;
       other_inners = λ n far l r. inners n far (far_left n l) (far_right n r);
       summed = λ l r. rw is_merged (whole_zip l r);
     }
 
-  -- the one rotates a child to the other
+  -- one node rotates a child to the other
   module _ (giver : Sibling) (other' : Inner K A) (u : K) (is_right : after.inner right.0 ≡ Present other') (moves : MovesChild giver one s other one' u other') (least : (16 ≤ length one'.keys) × (16 ≤ length other'.keys)) where
-    stands_rotated : (n : ℕ) → (n ≡ id.0 → ⊥) → stands (after.inner n) ≡ stands (now.inner n)
-    stands_rotated n far =
+    stored_rotated : (n : ℕ) → (n ≡ id.0 → ⊥) → stored (after.inner n) ≡ stored (now.inner n)
+    stored_rotated n far =
         elim (cases_eq n right.0) [
-          | inl e ↦ (rw e (ap stands is_right ∙ sym right_stands))
-          | inr r ↦ elim (cases_eq n left.0) [ inl e ↦ (rw e (ap stands is_left ∙ sym left_stands)) | inr l ↦ ap stands (inners n far l r) ]
+          | inl e ↦ (rw e (ap stored is_right ∙ sym right_stored))
+          | inr r ↦ elim (cases_eq n left.0) [ inl e ↦ (rw e (ap stored is_left ∙ sym left_stored)) | inr l ↦ ap stored (inners n far l r) ]
         ]
 
     one_long : length one'.children ≡ length one'.keys + 1
@@ -174,9 +174,9 @@ module _ {K V A : Type 0} {cmp : K → K → Ordering} (total' : IsTotalOrder cm
           rw (is_left, is_right) ((tt, p.0, least.0, moves.left_fits.0.keys), p.1, (tt, p.2, least.1, moves.right_fits.0.keys));
       pairs = rw (is_left, is_right, at_left, at_right) (sym (flat-append (pairs_at after h) one'.children other'.children) ∙ (ap (flat (pairs_at after h)) moves.children ∙ all_pairs));
       leaves = λ n. rw (is_left, is_right, at_left, at_right)
-          (omega (arith, all_leaves n, leaf_stands n, total-append (λ c. leaf_count after h c n) one'.children other'.children, ap (total (λ c. leaf_count after h c n)) moves.children));
+          (omega (arith, all_leaves n, leaf_stored n, total-append (λ c. leaf_count after h c n) one'.children other'.children, ap (total (λ c. leaf_count after h c n)) moves.children));
       inners = λ n far. rw (is_left, is_right, at_left, at_right)
-          (omega (arith, all_inners n, stands_rotated n far, total-append (λ c. inner_count after h c n) one'.children other'.children, ap (total (λ c. inner_count after h c n)) moves.children));
+          (omega (arith, all_inners n, stored_rotated n far, total-append (λ c. inner_count after h c n) one'.children other'.children, ap (total (λ c. inner_count after h c n)) moves.children));
       above = rw (is_left, is_right)
           (omega (
             arith,

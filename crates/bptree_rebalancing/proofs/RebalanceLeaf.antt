@@ -14,21 +14,21 @@ use Rattle.bptree_nodes.specs.Leaf.{Leaf}
 use Rattle.bptree_nodes.specs.Slot.{Slot, Slots, Held, Present, IsPresent}
 use Rattle.bptree_keys.specs.declared.node_id.LeafNodeId.{LeafNodeId}
 use Rattle.bptree_keys.specs.declared.node_id.NodeId.TheVariants as kind
-use Rattle.bptree_ascent.specs.Change.{StartsAt}
+use Rattle.bptree_propagation.specs.Change.{StartsAt}
 use Rattle.bptree_rebalancing.specs.Rebalance.{RebalancesPair}
-use Rattle.bptree_shape.specs.Order.{AtLeast, Under, Within, Between}
-use Rattle.bptree_shape.specs.Outcome.{Done, Split}
-use Rattle.bptree_shape.specs.Shape.{leaf_pairs, leaf_count, stands, IsTree}
+use Rattle.bptree_invariant.specs.Order.{AtLeast, Under, Within, Between}
+use Rattle.bptree_invariant.specs.Outcome.{Done, Split}
+use Rattle.bptree_invariant.specs.Shape.{leaf_pairs, leaf_count, stored, IsTree}
 use Rattle.bptree_rebalancing.specs.Transfer.{MovesPair, MergesLeaf}
 use Rattle.bptree_rebalancing.specs.declared.rotate_merge.Sibling.{Sibling}
-use Rattle.bptree_ascent.proofs.LeafEdit.{all_both, below_start, from_start, start_between}
-use Rattle.bptree_shape.proofs.Ordered.{AtLeast-up, Under-less, ascending_joined, ascending_after}
-use Rattle.bptree_shape.proofs.Spot.{ascending_before}
+use Rattle.bptree_propagation.proofs.LeafEdit.{all_both, below_start, from_start, start_between}
+use Rattle.bptree_invariant.proofs.Ordered.{AtLeast-up, Under-less, ascending_joined, ascending_after}
+use Rattle.bptree_invariant.proofs.Spot.{ascending_before}
 
 module _ {K V A : Type 0} {cmp : K → K → Ordering} (total' : IsTotalOrder cmp) (is_summary : A → List K → Type 0) (now after : Slots (Inner K A) (Leaf K V)) (number : ℕ) (left right : LeafNodeId) (one other one' : Leaf K V) (s : K)
     (at_left : now.leaf left.0 ≡ Present one) (at_right : now.leaf right.0 ≡ Present other) (is_left : after.leaf left.0 ≡ Present one')
     (inners : (n : ℕ) → (n ≡ number → ⊥) → after.inner n ≡ now.inner n) (leaves : (n : ℕ) → (n ≡ left.0 → ⊥) → (n ≡ right.0 → ⊥) → after.leaf n ≡ now.leaf n) (apart : left.0 ≡ right.0 → ⊥) where
-  -- all pairs of the two, between the outer bounds
+  -- all pairs of the two leaves, between the outer bounds
   record Both (lo hi : Option K) : Type 0 where
     pub within : AllByRecursion (λ p. Within cmp lo hi p.0) (one.pairs ++ other.pairs)
     pub ascending : IsAscending cmp (one.pairs ++ other.pairs)
@@ -47,30 +47,30 @@ module _ {K V A : Type 0} {cmp : K → K → Ordering} (total' : IsTotalOrder cm
         other_size = (z.2, z.3);
       }
 
-  left_stands : stands (now.leaf left.0) ≡ 1
-  left_stands = ap stands at_left
+  left_stored : stored (now.leaf left.0) ≡ 1
+  left_stored = ap stored at_left
 
-  right_stands : stands (now.leaf right.0) ≡ 1
-  right_stands = ap stands at_right
+  right_stored : stored (now.leaf right.0) ≡ 1
+  right_stored = ap stored at_right
 
-  inner_stands : (n : ℕ) → (n ≡ number → ⊥) → stands (after.inner n) ≡ stands (now.inner n)
-  inner_stands n far = ap stands (inners n far)
+  inner_stored : (n : ℕ) → (n ≡ number → ⊥) → stored (after.inner n) ≡ stored (now.inner n)
+  inner_stored n far = ap stored (inners n far)
 
   far_from : (x : LeafNodeId) (n : ℕ) → leaf_count now 0 (kind.Leaf x) n ≡ 0 → n ≡ x.0 → ⊥
   far_from x n none e = let q : eqb x.0 n ≡ true = eq-eqb x.0 n (sym e) in let z = rw q at none in omega arith
 
-  -- they merge
+  -- the two leaves merge
   module _ (emptied : Leaf K V) (is_right : after.leaf right.0 ≡ Held) (merges : MergesLeaf one other one' emptied) (fits : length one.pairs + length other.pairs ≤ 64) where
     is_merged : leaf_pairs (after.leaf left.0) ≡ one.pairs ++ other.pairs
     is_merged = ap leaf_pairs is_left ∙ ap (λ (l : Leaf K V). l.pairs) merges.left_is
 
-    stands_merged : (n : ℕ) → stands (now.leaf n) ≡ cond (eqb right.0 n) 1 0 + stands (after.leaf n)
-    stands_merged n =
+    stored_merged : (n : ℕ) → stored (now.leaf n) ≡ cond (eqb right.0 n) 1 0 + stored (after.leaf n)
+    stored_merged n =
         elim (eqb_tells right.0 n) [
-          | inl e ↦ (let z : stands (now.leaf n) ≡ 1 = ap (λ x. stands (now.leaf x)) (sym e.1) ∙ right_stands in let y : stands (after.leaf n) ≡ 0 = ap (λ x. stands (after.leaf x)) (sym e.1) ∙ ap stands is_right in rw e.0 (omega arith))
+          | inl e ↦ (let z : stored (now.leaf n) ≡ 1 = ap (λ x. stored (now.leaf x)) (sym e.1) ∙ right_stored in let y : stored (after.leaf n) ≡ 0 = ap (λ x. stored (after.leaf x)) (sym e.1) ∙ ap stored is_right in rw e.0 (omega arith))
           | inr e ↦ (rw e.0 (elim (eqb_tells left.0 n) [
-            | inl l ↦ (let z : stands (now.leaf n) ≡ 1 = ap (λ x. stands (now.leaf x)) (sym l.1) ∙ left_stands in let y : stands (after.leaf n) ≡ 1 = ap (λ x. stands (after.leaf x)) (sym l.1) ∙ ap stands is_left in omega arith)
-            | inr l ↦ (let z = ap stands (leaves n (λ q. l.1 (sym q)) (λ q. e.1 (sym q))) in omega arith)
+            | inl l ↦ (let z : stored (now.leaf n) ≡ 1 = ap (λ x. stored (now.leaf x)) (sym l.1) ∙ left_stored in let y : stored (after.leaf n) ≡ 1 = ap (λ x. stored (after.leaf x)) (sym l.1) ∙ ap stored is_left in omega arith)
+            | inr l ↦ (let z = ap stored (leaves n (λ q. l.1 (sym q)) (λ q. e.1 (sym q))) in omega arith)
           ]))
         ]
 
@@ -81,22 +81,22 @@ module _ {K V A : Type 0} {cmp : K → K → Ordering} (total' : IsTotalOrder cm
           let z : IsPresent (after.leaf left.0) = rw is_left tt in
           (z, rw is_merged x.within, rw is_merged x.ascending, rw is_merged (omega (arith, x.one_size.0, x.other_size.0, length-append one.pairs other.pairs)), rw is_merged (omega (arith, fits, length-append one.pairs other.pairs)));
       pairs = is_merged ∙ rw (at_left, at_right) refl;
-      leaves = λ n. omega (arith, stands_merged n);
-      inners = λ n far. omega (arith, inner_stands n far);
+      leaves = λ n. omega (arith, stored_merged n);
+      inners = λ n far. omega (arith, inner_stored n far);
       above = refl;
       other_leaves = λ n l r. leaves n (far_from left n l) (far_from right n r);
       other_inners = λ n far l r. inners n far;
       summed = λ l r. tt;
     }
 
-  -- the one rotates a pair to the other
+  -- one leaf rotates a pair to the other
   module _ (giver : Sibling) (other' : Leaf K V) (u : K) (is_right : after.leaf right.0 ≡ Present other') (moves : MovesPair giver one other one' other') (starts : StartsAt cmp u other'.pairs)
       (least : (16 ≤ length one'.pairs) × (16 ≤ length other'.pairs)) (most : (length one'.pairs ≤ 64) × (length other'.pairs ≤ 64)) where
-    stands_rotated : (n : ℕ) → stands (after.leaf n) ≡ stands (now.leaf n)
-    stands_rotated n =
+    stored_rotated : (n : ℕ) → stored (after.leaf n) ≡ stored (now.leaf n)
+    stored_rotated n =
         elim (cases_eq n right.0) [
-          | inl e ↦ (rw e (ap stands is_right ∙ sym right_stands))
-          | inr r ↦ elim (cases_eq n left.0) [ inl e ↦ (rw e (ap stands is_left ∙ sym left_stands)) | inr l ↦ ap stands (leaves n l r) ]
+          | inl e ↦ (rw e (ap stored is_right ∙ sym right_stored))
+          | inr r ↦ elim (cases_eq n left.0) [ inl e ↦ (rw e (ap stored is_left ∙ sym left_stored)) | inr l ↦ ap stored (leaves n l r) ]
         ]
 
     pub leaves_rotated : RebalancesPair cmp is_summary now after 0 number (kind.Leaf left) s (kind.Leaf right) (Split u (kind.Leaf right))
@@ -114,8 +114,8 @@ module _ {K V A : Type 0} {cmp : K → K → Ordering} (total' : IsTotalOrder cm
             (tt, all_both (λ p. is_lt (cmp p.0 u) ≡ false) (λ p. Under cmp hi p.0) other'.pairs (from_start total' u other'.pairs up_right starts) (AllByRecursion-weaker _ _ (λ p w. w.1) other'.pairs right_in), up_right, least.1, most.1),
           );
       pairs = rw (is_left, is_right, at_left, at_right) moves.pairs;
-      leaves = λ n. omega (arith, stands_rotated n);
-      inners = λ n far. omega (arith, inner_stands n far);
+      leaves = λ n. omega (arith, stored_rotated n);
+      inners = λ n far. omega (arith, inner_stored n far);
       above = refl;
       other_leaves = λ n l r. leaves n (far_from left n l) (far_from right n r);
       other_inners = λ n far l r. inners n far;

@@ -1,4 +1,4 @@
--- Two siblings rotate or merge, and what undoes that.
+-- Two siblings rotate or merge, and the undoing of each.
 use Rattle.std.proofs.Common.{◌≡◌, ℕ, zero, suc, ◌+◌, ◌-◌, ◌<◌, ◌≤◌, List, [], ◌∷◌, ◌++◌, length, take, drop, refl, sym, ap, subst, ◌∙◌, arith, add-one, Option, Some, slice_get, slice_set, length-append}
 use Rattle.std.specs.declared.cmp.Ordering.{Ordering}
 use Rattle.std.specs.List.{insert, remove}
@@ -10,24 +10,24 @@ use Rattle.bptree_nodes.specs.Inner.{Inner, with_entry, without_entry, first_chi
 use Rattle.bptree_nodes.specs.Leaf.{Leaf}
 use Rattle.bptree_nodes.specs.Slot.{Slot, Present}
 use Rattle.bptree_rebalancing.specs.Transfer.{other_of, CanGive, Moves, MovesPair, MovesChild, MergesLeaf, MergesInner, HasEntry, Rotates, Merges, ExchangesJoint}
-use Rattle.bptree_ascent.specs.Sums.{HasPlace, with_summary, with_split}
-use Rattle.bptree_ascent.specs.declared.node_changes.Division.{Division}
-use Rattle.bptree_rebalancing.specs.declared.rotate_merge.Joint.{Joint}
+use Rattle.bptree_propagation.specs.Sums.{HasChildAt, with_summary, with_split}
+use Rattle.bptree_propagation.specs.declared.node_changes.NodeSplit.{NodeSplit}
+use Rattle.bptree_rebalancing.specs.declared.rotate_merge.ParentEntry.{ParentEntry}
 use Rattle.bptree_rebalancing.specs.declared.rotate_merge.Sibling.{Sibling}
 use Rattle.bptree_rebalancing.specs.declared.rotate_merge.Sibling.TheVariants.{Left, Right}
 use Rattle.bptree_rebalancing.proofs.Choosing.{inserted_is}
-use Rattle.bptree_shape.proofs.ListReads.{read_below, read_some}
-use Rattle.bptree_ascent.proofs.Undone.{same_node}
-use Rattle.bptree_ascent.proofs.NodeChanges.{entry_back, sum_back, place_below, set_back, set_long}
+use Rattle.bptree_invariant.proofs.ListReads.{read_below, read_some}
+use Rattle.bptree_propagation.proofs.Undone.{same_node}
+use Rattle.bptree_propagation.proofs.NodeChanges.{entry_back, sum_back, index_below, set_back, set_long}
 
 module _ {X : Type 0} where
-  -- what was removed is inserted again
+  -- an item that was removed is inserted again
   pub insert_removed : (xs : List X) (i : ℕ) (x : X) → slice_get xs i ≡ Some x → insert (remove xs i) i x ≡ xs
   insert_removed [] i x read = cc
   insert_removed (y ∷ xs) zero x read = let same : y ≡ x = cc in rw same refl
   insert_removed (y ∷ xs) (suc i) x read = ap (λ l. y ∷ l) (insert_removed xs i x read)
 
-  -- two lists that are put together are known by the length of the first
+  -- two equal concatenations whose first parts have the same length have equal parts
   pub split_same : (xs ys zs ws : List X) → xs ++ ys ≡ zs ++ ws → length xs ≡ length zs → (xs ≡ zs) × (ys ≡ ws)
   split_same xs ys zs ws same long = (
     sym (take_at xs ys (length xs) refl) ∙ (ap (take (length xs)) same ∙ take_at zs ws (length xs) (sym long)),
@@ -39,7 +39,8 @@ module _ {X : Type 0} where
   read_at_end (z ∷ xs) ys x zero e = absurd (omega arith)
   read_at_end (z ∷ xs) ys x (suc i) e = read_at_end xs ys x i (omega arith)
 
-  -- what was inserted is replaced, and so is what stands right before it
+  -- a write at the index of an insertion replaces the inserted item, and one right before it
+  -- replaces the item before
   set_inserted : (xs : List X) (i : ℕ) (a b : X) → i ≤ length xs → slice_set (insert xs i a) i b ≡ insert xs i b
   set_inserted [] zero a b within = refl
   set_inserted [] (suc i) a b within = absurd (omega arith)
@@ -56,7 +57,7 @@ module _ {X : Type 0} where
   get_before (x ∷ xs) zero a below = refl
   get_before (x ∷ xs) (suc i) a below = get_before xs i a (omega arith)
 
-  -- what stands right behind is still there
+  -- a write at an index keeps the next item
   get_next : (xs : List X) (i : ℕ) (a : X) → slice_get (slice_set xs i a) (suc i) ≡ slice_get xs (suc i)
   get_next [] i a = refl
   get_next (x ∷ xs) zero a = refl
@@ -65,7 +66,7 @@ module _ {X : Type 0} where
   pub get_behind : (xs : List X) (i : ℕ) (a : X) → slice_get (slice_set xs i a) (i + 1) ≡ slice_get xs (i + 1)
   get_behind xs i a = rw add-one (get_next xs i a)
 
--- how far the giver and its sibling are from what they had, once the one gave and the other gave back
+-- a rotation and one in the other direction leave both sizes as they were
 back_sizes : (giver : Sibling) (a b c d e f : ℕ) → Moves giver a b c d → Moves (other_of giver) c d e f → (e ≡ a) × (f ≡ b)
 back_sizes Left a b c d e f there back = (omega arith, omega arith)
 back_sizes Right a b c d e f there back = (omega arith, omega arith)
@@ -81,7 +82,7 @@ pub node_same : {K A : Type 0} (x y : Inner K A) → x.keys ≡ y.keys → x.chi
 node_same x y keys children arguments = λ i. record { keys = keys i; children = children i; arguments = arguments i }
 
 module _ {K V : Type 0} where
-  -- a pair comes back
+  -- a pair moves back
   pub pair_moved_back : (giver : Sibling) (a b c d e f : Leaf K V) → MovesPair giver a b c d → MovesPair (other_of giver) c d e f → (e ≡ a) × (f ≡ b)
   pair_moved_back giver a b c d e f there back =
       let sizes = back_sizes giver (length a.pairs) (length b.pairs) (length c.pairs) (length d.pairs) (length e.pairs) (length f.pairs) there.sizes back.sizes in
@@ -90,11 +91,11 @@ module _ {K V : Type 0} where
         leaf_same f b parts.1 (ap (λ (l : Leaf K V). l.prev) back.right_links ∙ ap (λ (l : Leaf K V). l.prev) there.right_links) (ap (λ (l : Leaf K V). l.next) back.right_links ∙ ap (λ (l : Leaf K V). l.next) there.right_links),
       )
 
-  -- a leaf that is cut back, and relinked
+  -- a leaf is cut back, and relinked
   pub leaf_cut : (c given back : Leaf K V) (kept : ℕ) (next was : Option LeafNodeId) → given ≡ record c { pairs = take kept c.pairs } → back ≡ record given { next = next } → next ≡ was → back ≡ record c { pairs = take kept c.pairs; next = was }
   leaf_cut c given back kept next was cut linked same = linked ∙ rw (cut, same) refl
 
-  -- the undo of two leaves that merged
+  -- the merge of two leaves is undone
   pub leaves_unmerged : (a b c d e f : Leaf K V) (kept : ℕ) → MergesLeaf a b c d → kept ≡ length a.pairs → e ≡ record c { pairs = take kept c.pairs; next = a.next } → f ≡ record d { pairs = drop kept c.pairs } → (e ≡ a) × (f ≡ b)
   leaves_unmerged a b c d e f kept merges long left right =
       let first : take kept c.pairs ≡ a.pairs = ap (λ (l : Leaf K V). take kept l.pairs) merges.left_is ∙ take_at a.pairs b.pairs kept (sym long) in
@@ -104,7 +105,7 @@ module _ {K V : Type 0} where
       )
 
 module _ {K A : Type 0} where
-  -- a child comes back
+  -- a child moves back
   pub child_moved_back : (giver : Sibling) (a b c d e f : Inner K A) (s u v : K) → 0 < length a.children → 0 < length b.children → MovesChild giver a s b c u d → MovesChild (other_of giver) c u d e v f → (e ≡ a) × (f ≡ b) × (v ≡ s)
   child_moved_back giver a b c d e f s u v some_left some_right there back =
       let sizes = back_sizes giver (length a.keys) (length b.keys) (length c.keys) (length d.keys) (length e.keys) (length f.keys) there.sizes back.sizes in
@@ -119,7 +120,7 @@ module _ {K A : Type 0} where
       let arguments = split_same e.arguments f.arguments a.arguments b.arguments more (omega (arith, long, back.left_fits.0.arguments, there.left_fits.1.arguments)) in
       (node_same e a keys.0 children.0 arguments.0, node_same f b tail children.1 arguments.1, head)
 
-  -- the undo of two inner nodes that merged
+  -- the merge of two inner nodes is undone
   pub inners_unmerged : (a b c d e f : Inner K A) (s v : K) (kept : ℕ) → MergesInner a s b c d → kept ≡ length a.keys → length a.children ≡ kept + 1 → length a.arguments ≡ kept + 1
       → e ≡ first_children (kept + 1) c → slice_get c.keys (kept + 1 - 1) ≡ Some v → f ≡ later_children (kept + 1) c → (e ≡ a) × (f ≡ b) × (v ≡ s)
   inners_unmerged a b c d e f s v kept merges long children arguments left got right =
@@ -142,37 +143,37 @@ module _ {K A : Type 0} where
       after (y ∷ xs) ys x zero e = absurd (omega arith)
       after (y ∷ xs) ys x (suc n) e = after xs ys x n (omega arith)
 
-  -- a node without the entry that was taken out of it
-  pub entry_out : (node bare : Inner K A) (slot : ℕ) (s : K) (child : NodeId) (a : A) → HasPlace node (slot + 1) → slice_get node.keys slot ≡ Some s → slice_get node.children (slot + 1) ≡ Some child → slice_get node.arguments (slot + 1) ≡ Some a
+  -- a node without the entry that was removed from it
+  pub entry_out : (node bare : Inner K A) (slot : ℕ) (s : K) (child : NodeId) (a : A) → HasChildAt node (slot + 1) → slice_get node.keys slot ≡ Some s → slice_get node.children (slot + 1) ≡ Some child → slice_get node.arguments (slot + 1) ≡ Some a
       → bare ≡ without_entry node slot → HasEntry node bare slot s child a
-  entry_out node bare slot s child a h key at told is =
+  entry_out node bare slot s child a h key at reported is =
       let first = length-remove node.keys slot (read_below node.keys slot s key) in
       let second = length-remove node.children (slot + 1) (read_below node.children (slot + 1) child at) in
-      let third = length-remove node.arguments (slot + 1) (read_below node.arguments (slot + 1) a told) in
+      let third = length-remove node.arguments (slot + 1) (read_below node.arguments (slot + 1) a reported) in
       rw is (record {
-        place = record { within = omega (arith, first, h.within); children = omega (arith, first, second, h.children, h.within); arguments = omega (arith, second, third, h.arguments) };
-        is = node_same node (with_entry (without_entry node slot) slot s child a) (sym (insert_removed node.keys slot s key)) (sym (insert_removed node.children (slot + 1) child at)) (sym (insert_removed node.arguments (slot + 1) a told));
+        index = record { within = omega (arith, first, h.within); children = omega (arith, first, second, h.children, h.within); arguments = omega (arith, second, third, h.arguments) };
+        is = node_same node (with_entry (without_entry node slot) slot s child a) (sym (insert_removed node.keys slot s key)) (sym (insert_removed node.children (slot + 1) child at)) (sym (insert_removed node.arguments (slot + 1) a reported));
       })
 
   -- a node with another separator, and other summaries on both sides
-  abbrev pub with_joint : Inner K A → ℕ → Joint K A → Inner K A
+  abbrev pub with_joint : Inner K A → ℕ → ParentEntry K A → Inner K A
   with_joint node slot joint = record node {
     keys = slice_set node.keys slot joint.separator;
     arguments = slice_set (slice_set node.arguments slot joint.left) (slot + 1) joint.right;
   }
 
-  joint_put : (bare : Inner K A) (slot : ℕ) (s : K) (child : NodeId) (a : A) (joint : Joint K A) → HasPlace bare slot
+  joint_put : (bare : Inner K A) (slot : ℕ) (s : K) (child : NodeId) (a : A) (joint : ParentEntry K A) → HasChildAt bare slot
       → with_joint (with_entry bare slot s child a) slot joint ≡ with_split bare slot joint.left joint.separator child joint.right
   joint_put bare slot s child a joint h =
-      let below = place_below bare slot h in
+      let below = index_below bare slot h in
       let long = set_long bare.arguments slot joint.left in
       node_same _ _ (set_inserted bare.keys slot s joint.separator h.within) refl
       (rw add-one (ap (λ xs. slice_set xs (suc slot) joint.right) (set_before bare.arguments slot a joint.left below) ∙ set_inserted (slice_set bare.arguments slot joint.left) (suc slot) a joint.right (omega (arith, below, long))))
 
-  joint_is : (node new : Inner K A) (slot : ℕ) (joint out : Joint K A) → ExchangesJoint slot node joint out new → new ≡ with_joint node slot joint
-  joint_is node new slot joint out x = x.is ∙ sym (ap (λ n. with_joint n slot joint) x.entry.is ∙ joint_put x.bare slot out.separator x.child out.right joint x.entry.place)
+  joint_is : (node new : Inner K A) (slot : ℕ) (joint out : ParentEntry K A) → ExchangesJoint slot node joint out new → new ≡ with_joint node slot joint
+  joint_is node new slot joint out x = x.is ∙ sym (ap (λ n. with_joint n slot joint) x.entry.is ∙ joint_put x.bare slot out.separator x.child out.right joint x.entry.index)
 
-  pub joint_exchanged : (node new : Inner K A) (slot : ℕ) (joint out : Joint K A) → HasPlace node (slot + 1) → slice_get node.keys slot ≡ Some out.separator → slice_get node.arguments slot ≡ Some out.left → slice_get node.arguments (slot + 1) ≡ Some out.right
+  pub joint_exchanged : (node new : Inner K A) (slot : ℕ) (joint out : ParentEntry K A) → HasChildAt node (slot + 1) → slice_get node.keys slot ≡ Some out.separator → slice_get node.arguments slot ≡ Some out.left → slice_get node.arguments (slot + 1) ≡ Some out.right
       → new ≡ with_joint node slot joint → ExchangesJoint slot node joint out new
   joint_exchanged node new slot joint out h key left right is =
       let at = read_some node.children (slot + 1) (omega (arith, h.within, h.children)) in
@@ -182,14 +183,14 @@ module _ {K A : Type 0} where
         child = at.0;
         entry = entry;
         summary =
-            sym (get_before bare.arguments slot out.right (place_below bare slot entry.place))
+            sym (get_before bare.arguments slot out.right (index_below bare slot entry.index))
             ∙ (ap (λ n. slice_get (insert bare.arguments n out.right) slot) (sym (add-one slot)) ∙ (ap (λ (n : Inner K A). slice_get n.arguments slot) (sym entry.is) ∙ left));
-        is = is ∙ (ap (λ n. with_joint n slot joint) entry.is ∙ joint_put bare slot out.separator at.0 out.right joint entry.place);
+        is = is ∙ (ap (λ n. with_joint n slot joint) entry.is ∙ joint_put bare slot out.separator at.0 out.right joint entry.index);
       }
 
-  -- the place stays, and so does the number of keys
-  pub joint_place : (node new : Inner K A) (slot : ℕ) (joint out : Joint K A) → HasPlace node (slot + 1) → ExchangesJoint slot node joint out new → HasPlace new (slot + 1) × (length new.keys ≡ length node.keys)
-  joint_place node new slot joint out h x =
+  -- the child index stays valid, and the number of keys stays
+  pub joint_index : (node new : Inner K A) (slot : ℕ) (joint out : ParentEntry K A) → HasChildAt node (slot + 1) → ExchangesJoint slot node joint out new → HasChildAt new (slot + 1) × (length new.keys ≡ length node.keys)
+  joint_index node new slot joint out h x =
       let is = joint_is node new slot joint out x in
       let keys : length new.keys ≡ length node.keys = ap (λ (n : Inner K A). length n.keys) is ∙ set_long node.keys slot joint.separator in
       let children : length new.children ≡ length node.children = ap (λ (n : Inner K A). length n.children) is in
@@ -197,27 +198,27 @@ module _ {K A : Type 0} where
       ap (λ (n : Inner K A). length n.arguments) is ∙ (set_long (slice_set node.arguments slot joint.left) (slot + 1) joint.right ∙ set_long node.arguments slot joint.left) in
       (record { within = omega (arith, keys, h.within); children = omega (arith, keys, children, h.children); arguments = omega (arith, children, arguments, h.arguments) }, keys)
 
-  -- what stood there stands there again
-  pub joint_back : (node bare now back : Inner K A) (slot : ℕ) (child : NodeId) (joint told out : Joint K A) → HasEntry node bare slot joint.separator child joint.right → slice_get bare.arguments slot ≡ Some joint.left
-      → now ≡ with_split bare slot told.left told.separator child told.right → ExchangesJoint slot now joint out back → back ≡ node
-  joint_back node bare now back slot child joint told out entry summary is x =
-      let other = with_summary bare slot told.left in
-      let h = entry.place in
-      let there : HasPlace other slot = record { within = h.within; children = h.children; arguments = set_long bare.arguments slot told.left ∙ h.arguments } in
+  -- the separator and the summaries that a node had are stored again
+  pub joint_back : (node bare now back : Inner K A) (slot : ℕ) (child : NodeId) (joint reported out : ParentEntry K A) → HasEntry node bare slot joint.separator child joint.right → slice_get bare.arguments slot ≡ Some joint.left
+      → now ≡ with_split bare slot reported.left reported.separator child reported.right → ExchangesJoint slot now joint out back → back ≡ node
+  joint_back node bare now back slot child joint reported out entry summary is x =
+      let other = with_summary bare slot reported.left in
+      let h = entry.index in
+      let there : HasChildAt other slot = record { within = h.within; children = h.children; arguments = set_long bare.arguments slot reported.left ∙ h.arguments } in
       joint_is now back slot joint out x
       ∙ (ap (λ n. with_joint n slot joint) is
-      ∙ (joint_put other slot told.separator child told.right joint there
-      ∙ (ap (λ xs. with_entry (record bare { arguments = xs }) slot joint.separator child joint.right) (set_back bare.arguments slot told.left joint.left summary) ∙ sym entry.is)))
+      ∙ (joint_put other slot reported.separator child reported.right joint there
+      ∙ (ap (λ xs. with_entry (record bare { arguments = xs }) slot joint.separator child joint.right) (set_back bare.arguments slot reported.left joint.left summary) ∙ sym entry.is)))
 
-  -- an entry of the node that stands somewhere
+  -- the node that a slot contains has the entry
   pub entry_of : {bare : Inner K A} {slot : ℕ} {s : K} {child : NodeId} {a : A} (there : Slot (Inner K A)) (node was : Inner K A) → there ≡ Present node → there ≡ Present was → HasEntry was bare slot s child a → HasEntry node bare slot s child a
   entry_of {bare} {slot} {s} {child} {a} there node was here is entry = subst (λ n. HasEntry n bare slot s child a) (sym (same_node there node was here is)) entry
 
-  -- it is put in again
-  pub entry_returned : (node bare now back : Inner K A) (slot : ℕ) (s : K) (child : NodeId) (a : A) → HasPlace node (slot + 1) → slice_get node.keys slot ≡ Some s → slice_get node.children (slot + 1) ≡ Some child → slice_get node.arguments (slot + 1) ≡ Some a
+  -- the entry is inserted again
+  pub entry_returned : (node bare now back : Inner K A) (slot : ℕ) (s : K) (child : NodeId) (a : A) → HasChildAt node (slot + 1) → slice_get node.keys slot ≡ Some s → slice_get node.children (slot + 1) ≡ Some child → slice_get node.arguments (slot + 1) ≡ Some a
       → bare ≡ without_entry node slot → now ≡ bare → back ≡ with_entry now slot s child a → back ≡ node
-  entry_returned node bare now back slot s child a h key at told out same is =
-      is ∙ (ap (λ n. with_entry n slot s child a) same ∙ sym (entry_out node bare slot s child a h key at told out).is)
+  entry_returned node bare now back slot s child a h key at reported out same is =
+      is ∙ (ap (λ n. with_entry n slot s child a) same ∙ sym (entry_out node bare slot s child a h key at reported out).is)
 
   -- a node that took another entry has the old one again
   module _ (cmp : K → K → Ordering) (node bare now taken set back : Inner K A) (slot : ℕ) (s : K) (child out_child : NodeId) (a before out_a out : A) (out_s : K) (left_told : A → Type 0) (parts : K → Type 0) (right_told : A → Type 0)
@@ -225,20 +226,20 @@ module _ {K A : Type 0} where
       (undoes : (w : Inner K A) (key : K) (c : NodeId) (x : A) → now.keys ≡ insert w.keys slot key → now.children ≡ insert w.children (suc slot) c → now.arguments ≡ insert w.arguments (suc slot) x
       → slot ≤ length w.keys → suc slot ≤ length w.children → suc slot ≤ length w.arguments → (taken ≡ w) × (◌≡◌ {A = K × NodeId × A} (out_s, out_child, out_a) (key, c, x)))
       (got : slice_get taken.arguments slot ≡ Some out) (put : set ≡ record taken { arguments = slice_set taken.arguments slot before }) where
-    rotated_back : (set ≡ bare) × (◌≡◌ {A = Division K A} (record { left = out; separator = out_s; node = out_child; right = out_a }) (record { left = rotates.left; separator = rotates.separator; node = child; right = rotates.right }))
-    rotated_back = entry_back bare now taken set slot before (out_s, out_child, out_a) (record { left = out; separator = out_s; node = out_child; right = out_a }) (record { left = rotates.left; separator = rotates.separator; node = child; right = rotates.right }) entry.place rotates.summary rotates.is undoes got put refl
+    rotated_back : (set ≡ bare) × (◌≡◌ {A = NodeSplit K A} (record { left = out; separator = out_s; node = out_child; right = out_a }) (record { left = rotates.left; separator = rotates.separator; node = child; right = rotates.right }))
+    rotated_back = entry_back bare now taken set slot before (out_s, out_child, out_a) (record { left = out; separator = out_s; node = out_child; right = out_a }) (record { left = rotates.left; separator = rotates.separator; node = child; right = rotates.right }) entry.index rotates.summary rotates.is undoes got put refl
 
     pub rotated_separator : out_s ≡ rotates.separator
-    rotated_separator = ap (λ (d : Division K A). d.separator) rotated_back.1
+    rotated_separator = ap (λ (d : NodeSplit K A). d.separator) rotated_back.1
 
     pub rotated_entry : back ≡ with_entry set slot s out_child a → back ≡ node
-    rotated_entry is = is ∙ (rw (rotated_back.0, ap (λ (d : Division K A). d.node) rotated_back.1) (sym entry.is))
+    rotated_entry is = is ∙ (rw (rotated_back.0, ap (λ (d : NodeSplit K A). d.node) rotated_back.1) (sym entry.is))
 
   -- a node that lost an entry has it again
-  pub merged_entry : (node bare now set back : Inner K A) (slot : ℕ) (s : K) (child given : NodeId) (a before out : A) (told : A → Type 0) → HasEntry node bare slot s child a → (merges : Merges bare slot told now before)
+  pub merged_entry : (node bare now set back : Inner K A) (slot : ℕ) (s : K) (child given : NodeId) (a before out : A) (reported : A → Type 0) → HasEntry node bare slot s child a → (merges : Merges bare slot reported now before)
       → slice_get now.arguments slot ≡ Some out → set ≡ record now { arguments = slice_set now.arguments slot before } → slice_get node.children (slot + 1) ≡ Some given → back ≡ with_entry set slot s given a → back ≡ node
-  merged_entry node bare now set back slot s child given a before out told entry merges got put read is =
-      let undone = sum_back bare now set slot merges.both before out merges.is (place_below bare slot entry.place) merges.summary got put in
+  merged_entry node bare now set back slot s child given a before out reported entry merges got put read is =
+      let undone = sum_back bare now set slot merges.both before out merges.is (index_below bare slot entry.index) merges.summary got put in
       let there : child ≡ given =
-      inserted_is bare.children (slot + 1) child given (omega (arith, entry.place.within, entry.place.children)) (ap (λ (n : Inner K A). slice_get n.children (slot + 1)) (sym entry.is) ∙ read) in
+      inserted_is bare.children (slot + 1) child given (omega (arith, entry.index.within, entry.index.children)) (ap (λ (n : Inner K A). slice_get n.children (slot + 1)) (sym entry.is) ∙ read) in
       is ∙ rw (undone.0, ← there) (sym entry.is)

@@ -8,16 +8,16 @@ use Rattle.bptree_nodes.specs.Slot.{Slot, Slots, Held, Present, IsPresent, Updat
 use Rattle.bptree_keys.specs.declared.node_id.InnerNodeId.{InnerNodeId}
 use Rattle.bptree_keys.specs.declared.node_id.LeafNodeId.{LeafNodeId}
 use Rattle.bptree_keys.specs.declared.node_id.NodeId.TheVariants as kind
-use Rattle.bptree_shape.specs.Shape.{leaf_pairs, leaf_next, inner_keys, inner_children}
-use Rattle.bptree_ascent.specs.Change.{StartsAt}
-use Rattle.bptree_ascent.specs.LeafChange.{SumsUpLeaf}
-use Rattle.bptree_ascent.proofs.Undone.{same_node}
+use Rattle.bptree_invariant.specs.Shape.{leaf_pairs, leaf_next, inner_keys, inner_children}
+use Rattle.bptree_propagation.specs.Change.{StartsAt}
+use Rattle.bptree_propagation.specs.LeafChange.{SumsUpLeaf}
+use Rattle.bptree_propagation.proofs.Undone.{same_node}
 use Rattle.bptree_rebalancing.specs.ChooseSibling.{CanGiveChild, FitInOneLeaf, FitInOneNode}
-use Rattle.bptree_rebalancing.specs.RotateMerge.{MergesLeaves, RotatesInners, MergesInners, UndoesRotateInners, UndoesMergeLeaves, UndoesMergeInners, ThreeAt, MovesPairAt, RetellsLeavesAt, RotatesLeavesAt, MergesLeavesAt, RotatesInnersAt, MergesInnersAt}
+use Rattle.bptree_rebalancing.specs.RotateMerge.{MergesLeaves, RotatesInners, MergesInners, UndoesRotateInners, UndoesMergeLeaves, UndoesMergeInners, ThreeAt, MovesPairAt, ResummarizesLeavesAt, RotatesLeavesAt, MergesLeavesAt, RotatesInnersAt, MergesInnersAt}
 use Rattle.bptree_rebalancing.specs.Transfer.{other_of, MovesPair, ExchangesJoint}
-use Rattle.bptree_rebalancing.specs.declared.rotate_merge.Joint.{Joint}
+use Rattle.bptree_rebalancing.specs.declared.rotate_merge.ParentEntry.{ParentEntry}
 use Rattle.bptree_rebalancing.specs.declared.rotate_merge.Sibling.{Sibling}
-use Rattle.bptree_rebalancing.specs.declared.rotate_merge.Sides.{Sides}
+use Rattle.bptree_rebalancing.specs.declared.rotate_merge.ChildSummaries.{ChildSummaries}
 use Rattle.bptree_rebalancing.proofs.Transfers.{joint_back, pair_moved_back}
 
 pub slots_same : {I L : Type 0} (x y : Slots I L) → ((n : ℕ) → x.inner n ≡ y.inner n) → ((n : ℕ) → x.leaf n ≡ y.leaf n) → x ≡ y
@@ -41,7 +41,7 @@ three_at {node = node} {node' = node'} {one = one} {other = other} {one' = one'}
   most = rw at_node at most;
 }
 
--- what undoes a change of the three leaves them as they were
+-- the undo of a change of three nodes leaves them as they were
 three_back : {K A C : Type 0} {above above' : ℕ → Slot (Inner K A)} {below below' : ℕ → Slot C} {id left right : ℕ} {last : C} {node back : Inner K A} {one other one' other' : C} (t : ThreeAt above above' below below' id left right (Present last)) (R : Inner K A → C → C → Type 0)
     → above' id ≡ Present node → below' left ≡ Present one → below' right ≡ Present other → R t.node' t.one' last → (R node one other → (back ≡ t.node) × (one' ≡ t.one) × (other' ≡ t.other))
     → (above id ≡ Present back) × (below left ≡ Present one') × (below right ≡ Present other')
@@ -75,8 +75,8 @@ module _ {K V A : Type 0} {old s1 s2 s3 s4 s5 : Slots (Inner K A) (Leaf K V)} (i
   leaves_stay n l r =
       p2.leaf.others n l ∙ (ap (λ (f : ℕ → Slot (Leaf K V)). f n) p1.leaf ∙ (t3.leaf.others n r ∙ (t2.leaf.others n l ∙ ap (λ (f : ℕ → Slot (Leaf K V)). f n) t1.leaf)))
 
-  -- so the two merged
-  module _ {cmp : K → K → Ordering} {is_summary : A → List K → Type 0} {slot : ℕ} {joint : Joint K A} {node : Inner K A} (here : old.inner id.0 ≡ Present node) where
+  -- two leaves merged by such a change
+  module _ {cmp : K → K → Ordering} {is_summary : A → List K → Type 0} {slot : ℕ} {joint : ParentEntry K A} {node : Inner K A} (here : old.inner id.0 ≡ Present node) where
     pub leaves_merged : {emptied : Leaf K V} → length (inner_keys (old.inner id.0)) ≤ 64 → FitInOneLeaf old left right → MergesLeaves cmp is_summary slot node one other node' one' emptied joint → MergesLeavesAt cmp is_summary slot old s5 id left right joint emptied
     leaves_merged most fits merges = record {
       three = three_at here left_was right_was node_is left_is right_held apart most;
@@ -86,7 +86,7 @@ module _ {K V A : Type 0} {old s1 s2 s3 s4 s5 : Slots (Inner K A) (Leaf K V)} (i
       transfers = merges;
     }
 
--- a pair that went over comes back
+-- a pair that was moved moves back
 pub pairs_back : {K V A : Type 0} {giver : Sibling} (left right : LeafNodeId) {old mid new : Slots (Inner K A) (Leaf K V)} → MovesPairAt old mid giver left right → (mid' : Slots (Inner K A) (Leaf K V)) → mid'.leaf ≡ mid.leaf → MovesPairAt mid' new (other_of giver) left right → new.leaf ≡ old.leaf
 pairs_back {K} {V} {A} {giver} left right {old} {mid} {new} there mid' same back = λ i n. each n i
   where
@@ -109,18 +109,18 @@ pairs_back {K} {V} {A} {giver} left right {old} {mid} {new} there mid' same back
           ]
         ]
 
-module _ {K V A : Type 0} {cmp : K → K → Ordering} {is_summary : A → List K → Type 0} {slot : ℕ} {giver : Sibling} (id : InnerNodeId) (left right : LeafNodeId) {joint : Joint K A} where
-  -- and the node above has what stands between the two then
-  pub leaves_rotated : {old mid new : Slots (Inner K A) (Leaf K V)} → (left.0 ≡ right.0 → ⊥) → MovesPairAt old mid giver left right → RetellsLeavesAt cmp is_summary slot mid new id left right joint → RotatesLeavesAt cmp is_summary slot old new id giver left right joint
-  leaves_rotated {old} {mid} {new} apart moved told =
-      let x = told.exchanges in
-      let one = same_node (mid.leaf left.0) told.one moved.one' told.at_left moved.is_left in
-      let other = same_node (mid.leaf right.0) told.other moved.other' told.at_right moved.is_right in
-      let at_node : old.inner id.0 ≡ Present told.node = sym (ap (λ (f : ℕ → Slot (Inner K A)). f id.0) moved.inner) ∙ told.at_node in
-      let leaf = told.updates.leaf in record {
+module _ {K V A : Type 0} {cmp : K → K → Ordering} {is_summary : A → List K → Type 0} {slot : ℕ} {giver : Sibling} (id : InnerNodeId) (left right : LeafNodeId) {joint : ParentEntry K A} where
+  -- two leaves rotated a pair, and the node above takes their summaries and a separator
+  pub leaves_rotated : {old mid new : Slots (Inner K A) (Leaf K V)} → (left.0 ≡ right.0 → ⊥) → MovesPairAt old mid giver left right → ResummarizesLeavesAt cmp is_summary slot mid new id left right joint → RotatesLeavesAt cmp is_summary slot old new id giver left right joint
+  leaves_rotated {old} {mid} {new} apart moved reported =
+      let x = reported.exchanges in
+      let one = same_node (mid.leaf left.0) reported.one moved.one' reported.at_left moved.is_left in
+      let other = same_node (mid.leaf right.0) reported.other moved.other' reported.at_right moved.is_right in
+      let at_node : old.inner id.0 ≡ Present reported.node = sym (ap (λ (f : ℕ → Slot (Inner K A)). f id.0) moved.inner) ∙ reported.at_node in
+      let leaf = reported.updates.leaf in record {
         other' = moved.other';
-        three = three_at at_node moved.at_left moved.at_right told.updates.inner.changed (ap (λ (f : ℕ → Slot (Leaf K V)). f left.0) leaf ∙ moved.is_left) (ap (λ (f : ℕ → Slot (Leaf K V)). f right.0) leaf ∙ moved.is_right) apart (rw at_node told.most);
-        inners = λ n far. told.updates.inner.others n far ∙ ap (λ (f : ℕ → Slot (Inner K A)). f n) moved.inner;
+        three = three_at at_node moved.at_left moved.at_right reported.updates.inner.changed (ap (λ (f : ℕ → Slot (Leaf K V)). f left.0) leaf ∙ moved.is_left) (ap (λ (f : ℕ → Slot (Leaf K V)). f right.0) leaf ∙ moved.is_right) apart (rw at_node reported.most);
+        inners = λ n far. reported.updates.inner.others n far ∙ ap (λ (f : ℕ → Slot (Inner K A)). f n) moved.inner;
         leaves = λ n l r. ap (λ (f : ℕ → Slot (Leaf K V)). f n) leaf ∙ moved.leaves n l r;
         can = moved.can;
         transfers = record {
@@ -129,27 +129,27 @@ module _ {K V A : Type 0} {cmp : K → K → Ordering} {is_summary : A → List 
           entry = x.entry;
           moves = moved.moves;
           rotates = record {
-            left = told.told.left;
-            separator = told.told.separator;
-            right = told.told.right;
+            left = reported.reported.left;
+            separator = reported.reported.separator;
+            right = reported.reported.right;
             is = x.is;
             summary = x.summary;
-            told_left = subst (λ (l : Leaf K V). SumsUpLeaf cmp is_summary l.pairs told.told.left) one told.tells.told_left;
-            separates = subst (λ (l : Leaf K V). StartsAt cmp told.told.separator l.pairs) other told.tells.separates;
-            told_right = subst (λ (l : Leaf K V). SumsUpLeaf cmp is_summary l.pairs told.told.right) other told.tells.told_right;
+            reported_left = subst (λ (l : Leaf K V). SumsUpLeaf cmp is_summary l.pairs reported.reported.left) one reported.reports.reported_left;
+            separates = subst (λ (l : Leaf K V). StartsAt cmp reported.reported.separator l.pairs) other reported.reports.separates;
+            reported_right = subst (λ (l : Leaf K V). SumsUpLeaf cmp is_summary l.pairs reported.reported.right) other reported.reports.reported_right;
           };
         };
       }
 
-  -- the two, and the node above, are again what they were
-  pub leaves_unrotated : {was now mid new : Slots (Inner K A) (Leaf K V)} → (node back : Inner K A) (out : Joint K A) → RotatesLeavesAt cmp is_summary slot was now id giver left right joint → now.inner id.0 ≡ Present node → ExchangesJoint slot node joint out back → UpdatesInner now mid id.0 (Present back) → MovesPairAt mid new (other_of giver) left right
+  -- the two leaves, and the node above, are again what they were
+  pub leaves_unrotated : {was now mid new : Slots (Inner K A) (Leaf K V)} → (node back : Inner K A) (out : ParentEntry K A) → RotatesLeavesAt cmp is_summary slot was now id giver left right joint → now.inner id.0 ≡ Present node → ExchangesJoint slot node joint out back → UpdatesInner now mid id.0 (Present back) → MovesPairAt mid new (other_of giver) left right
       → new ≡ was
   leaves_unrotated {was} {now} {mid} {new} node back out r here x put moved =
       let three = r.three in
       let rotates = r.transfers.rotates in
-      let told : Joint K A = record { left = rotates.left; separator = rotates.separator; right = rotates.right } in
+      let reported : ParentEntry K A = record { left = rotates.left; separator = rotates.separator; right = rotates.right } in
       let is = same_node (now.inner id.0) node three.node' here three.is_node ∙ rotates.is in
-      let undone = joint_back three.node r.transfers.bare node back slot r.transfers.child joint told out r.transfers.entry rotates.summary is x in
+      let undone = joint_back three.node r.transfers.bare node back slot r.transfers.child joint reported out r.transfers.entry rotates.summary is x in
       let there : MovesPairAt was (record { inner = was.inner; leaf = now.leaf }) giver left right = record {
         one = three.one;
         other = three.other;
@@ -171,7 +171,7 @@ module _ {K V A : Type 0} {cmp : K → K → Ordering} {is_summary : A → List 
       ])
       (λ n. ap (λ (f : ℕ → Slot (Leaf K V)). f n) (pairs_back left right there mid put.leaf moved))
 
--- the same where the children are inner nodes
+-- a parent and two children that are inner nodes are taken out, changed, and put back
 module _ {K V A : Type 0} {old s1 s2 s3 s4 s5 : Slots (Inner K A) (Leaf K V)} (id left right : InnerNodeId) {node' one other one' : Inner K A} (apart : (left.0 ≡ right.0 → ⊥) × (left.0 ≡ id.0 → ⊥) × (right.0 ≡ id.0 → ⊥))
     (t1 : UpdatesInner old s1 id.0 Held) (v2 : s1.inner left.0 ≡ Present one) (t2 : UpdatesInner s1 s2 left.0 Held) (v3 : s2.inner right.0 ≡ Present other) (t3 : UpdatesInner s2 s3 right.0 Held)
     (p1 : UpdatesInner s3 s4 id.0 (Present node')) (p2 : UpdatesInner s4 s5 left.0 (Present one')) where
@@ -222,7 +222,7 @@ module _ {K V A : Type 0} {old s1 s2 s3 s4 s5 : Slots (Inner K A) (Leaf K V)} (i
         ])
         (λ n. ap (λ (f : ℕ → Slot (Leaf K V)). f n) (leaf_stays_then ∙ leaf))
 
-  module _ {cmp : K → K → Ordering} {is_summary : A → List K → Type 0} {slot : ℕ} {sides : Sides A} {node : Inner K A} (here : old.inner id.0 ≡ Present node) where
+  module _ {cmp : K → K → Ordering} {is_summary : A → List K → Type 0} {slot : ℕ} {sides : ChildSummaries A} {node : Inner K A} (here : old.inner id.0 ≡ Present node) where
     pub inners_merged : {emptied : Inner K A} → length (inner_keys (old.inner id.0)) ≤ 64 → FitInOneNode old left right → MergesInners cmp is_summary slot node one other node' one' emptied sides → MergesInnersAt cmp is_summary slot old s5 id left right sides emptied
     inners_merged most fits merges = record {
       three = three_at here one_was other_was above_is one_is other_held apart.0 most;
@@ -253,7 +253,7 @@ pub ok_so : {T E : Type 0} (r : Result T E) (P R : T → Type 0) → IfOk r P �
 ok_so (Ok x) P R given turns = turns x given
 ok_so (Err e) P R given turns = tt
 
--- a parent and the left child are taken out and put back, and the right one is put in anew
+-- a parent and the left child are taken out and put back, and the right one is stored anew
 leaf_put_back : {K V A : Type 0} (old s1 s2 s4 s5 s6 was : Slots (Inner K A) (Leaf K V)) (id : InnerNodeId) (left right : LeafNodeId) (node' : Inner K A) (one' : Leaf K V) (slot : Slot (Leaf K V)) → (left.0 ≡ right.0 → ⊥)
     → UpdatesInner old s1 id.0 Held → UpdatesLeaf s1 s2 left.0 Held → UpdatesInner s2 s4 id.0 (Present node') → UpdatesLeaf s4 s5 left.0 (Present one') → UpdatesLeaf s5 s6 right.0 slot
     → ((n : ℕ) → (n ≡ id.0 → ⊥) → old.inner n ≡ was.inner n) → ((n : ℕ) → (n ≡ left.0 → ⊥) → (n ≡ right.0 → ⊥) → old.leaf n ≡ was.leaf n)
@@ -290,9 +290,9 @@ inner_put_back {K} {V} {A} old s1 s2 s4 s5 s6 was id left right node' one' slot 
     back : (n : ℕ) → (n ≡ right.0 → ⊥) → (n ≡ left.0 → ⊥) → s4.inner n ≡ was.inner n
     back n r l = elim (cases_eq n id.0) [ inl e ↦ (rw e (p1.inner.changed ∙ sym here)) | inr far ↦ (p1.inner.others n far ∙ (t2.inner.others n l ∙ (t1.inner.others n far ∙ inners n far l r))) ]
 
--- so a merge was undone
+-- the merge of two leaves is undone
 module _ {K V A : Type 0} {cmp : K → K → Ordering} {is_summary : A → List K → Type 0} {slot kept : ℕ} {old s1 s2 s4 s5 s6 : Slots (Inner K A) (Leaf K V)} {node node' : Inner K A} (was : Slots (Inner K A) (Leaf K V)) (id : InnerNodeId) (here : old.inner id.0 ≡ Present node) (t1 : UpdatesInner old s1 id.0 Held) where
-  pub leaves_unmerged_at : {joint : Joint K A} {one one' emptied back : Leaf K V} (left right : LeafNodeId) → s1.leaf left.0 ≡ Present one → UpdatesLeaf s1 s2 left.0 Held → UpdatesInner s2 s4 id.0 (Present node') → UpdatesLeaf s4 s5 left.0 (Present one') → UpdatesLeaf s5 s6 right.0 (Present back)
+  pub leaves_unmerged_at : {joint : ParentEntry K A} {one one' emptied back : Leaf K V} (left right : LeafNodeId) → s1.leaf left.0 ≡ Present one → UpdatesLeaf s1 s2 left.0 Held → UpdatesInner s2 s4 id.0 (Present node') → UpdatesLeaf s4 s5 left.0 (Present one') → UpdatesLeaf s5 s6 right.0 (Present back)
       → MergesLeavesAt cmp is_summary slot was old id left right joint emptied → UndoesMergeLeaves cmp is_summary slot joint node one emptied node' one' back (kind.Leaf right) kept (Some right)
       → kept ≡ length (leaf_pairs (was.leaf left.0)) → slice_get (inner_children (was.inner id.0)) (slot + 1) ≡ Some (kind.Leaf right) → leaf_next (was.leaf left.0) ≡ Some right → s6 ≡ was
   leaves_unmerged_at {one = one} {one' = one'} {back = back} left right v2 t2 p1 p2 p3 m undoes long read next =
@@ -301,7 +301,7 @@ module _ {K V A : Type 0} {cmp : K → K → Ordering} {is_summary : A → List 
       let undone = undoes t.node t.one t.other (rw (same_node (old.inner id.0) node t.node' here t.is_node, same_node (old.leaf left.0) one t.one' there t.is_left) m.transfers) (rw t.at_node at read) (rw t.at_left at long) (sym (rw t.at_left at next)) in
       leaf_put_back old s1 s2 s4 s5 s6 was id left right node' one' (Present back) t.apart t1 t2 p1 p2 p3 m.inners m.leaves (t.at_node ∙ ap Present (sym undone.0)) (t.at_left ∙ ap Present (sym undone.1)) (t.at_right ∙ ap Present (sym undone.2))
 
-  pub inners_unmerged_at : {sides : Sides A} {one one' emptied back : Inner K A} (left right : InnerNodeId) → s1.inner left.0 ≡ Present one → UpdatesInner s1 s2 left.0 Held → UpdatesInner s2 s4 id.0 (Present node') → UpdatesInner s4 s5 left.0 (Present one') → UpdatesInner s5 s6 right.0 (Present back)
+  pub inners_unmerged_at : {sides : ChildSummaries A} {one one' emptied back : Inner K A} (left right : InnerNodeId) → s1.inner left.0 ≡ Present one → UpdatesInner s1 s2 left.0 Held → UpdatesInner s2 s4 id.0 (Present node') → UpdatesInner s4 s5 left.0 (Present one') → UpdatesInner s5 s6 right.0 (Present back)
       → MergesInnersAt cmp is_summary slot was old id left right sides emptied → UndoesMergeInners cmp is_summary slot sides node one emptied node' one' back (kind.Inner right) kept
       → kept ≡ length (inner_keys (was.inner left.0)) → slice_get (inner_children (was.inner id.0)) (slot + 1) ≡ Some (kind.Inner right) → s6 ≡ was
   inners_unmerged_at {one = one} {one' = one'} {back = back} left right v2 t2 p1 p2 p3 m undoes long read =
@@ -310,7 +310,8 @@ module _ {K V A : Type 0} {cmp : K → K → Ordering} {is_summary : A → List 
       let undone = undoes t.node t.one t.other (rw (same_node (old.inner id.0) node t.node' here t.is_node, same_node (old.inner left.0) one t.one' there t.is_left) m.transfers) (rw t.at_node at read) (rw t.at_left at long) in
       inner_put_back old s1 s2 s4 s5 s6 was id left right node' one' (Present back) (t.apart, m.far.0, m.far.1) t1 t2 p1 p2 p3 m.inners m.leaf (t.at_node ∙ ap Present (sym undone.0)) (t.at_left ∙ ap Present (sym undone.1)) (t.at_right ∙ ap Present (sym undone.2))
 
--- two inner nodes that changed with the node above are there to be taken out, and their numbers are held then
+-- two inner nodes that changed with the node above are present, and their ids are held once they
+-- are taken out
 module _ {K V A : Type 0} {now s1 : Slots (Inner K A) (Leaf K V)} {behind : Inner K A} (was : Slots (Inner K A) (Leaf K V)) (id left right : InnerNodeId) (t : ThreeAt was.inner now.inner was.inner now.inner id.0 left.0 right.0 (Present behind)) (far : (left.0 ≡ id.0 → ⊥) × (right.0 ≡ id.0 → ⊥)) (t1 : UpdatesInner now s1 id.0 Held) where
   pub one_there : IsPresent (s1.inner left.0)
   one_there = rw (t1.inner.others left.0 far.0, t.is_left) tt

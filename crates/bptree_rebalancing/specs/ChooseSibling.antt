@@ -1,4 +1,4 @@
--- Which sibling a child that underflows rotates or merges with.
+-- The sibling that a child that underflows rotates or merges with.
 use Rattle.std.specs.Prelude.{◌≡◌, ℕ, zero, suc, ◌+◌, ◌<◌, ◌≤◌, ◌⊎◌, Bool, true, false, List, [], ◌∷◌, length, slice_get, Option, Some, None}
 use Rattle.std.specs.List.{AllByRecursion}
 use Rattle.bptree_nodes.specs.Inner.{Inner}
@@ -9,29 +9,31 @@ use Rattle.bptree_keys.specs.declared.node_id.LeafNodeId.{LeafNodeId}
 use Rattle.bptree_keys.specs.declared.node_id.NodeId.{NodeId}
 use Rattle.bptree_keys.specs.declared.node_id.NodeId.TheVariants as kind
 use Rattle.bptree_rebalancing.specs.Transfer.{CanGive}
-use Rattle.bptree_shape.specs.Shape.{leaf_pairs, inner_keys, inner_children}
+use Rattle.bptree_invariant.specs.Shape.{leaf_pairs, inner_keys, inner_children}
 use Rattle.bptree_rebalancing.specs.declared.rotate_merge.Sibling.{Sibling}
 use Rattle.bptree_rebalancing.specs.declared.rotate_merge.Sibling.TheVariants.{Left, Right}
 
--- which sibling gives, if one has more than the most to merge with, and the slot of the separator between the two
+-- which sibling gives, if one has more than the most to merge with, and the slot of the separator
+-- between the two
 abbrev pub ChosenSibling : ℕ → Bool → ℕ → ℕ → ℕ → Option Sibling → Type 0
-ChosenSibling place gives after most slot (Some Left) = (gives ≡ true) × (suc slot ≡ place)
-ChosenSibling place gives after most slot (Some Right) = (most < after) × (slot ≡ place)
-ChosenSibling place gives after most slot None = (gives ≡ false) × (after ≤ most) × ((suc slot ≡ place) ⊎ ((slot ≡ place) × (place ≡ 0)))
+ChosenSibling index gives after most slot (Some Left) = (gives ≡ true) × (suc slot ≡ index)
+ChosenSibling index gives after most slot (Some Right) = (most < after) × (slot ≡ index)
+ChosenSibling index gives after most slot None = (gives ≡ false) × (after ≤ most) × ((suc slot ≡ index) ⊎ ((slot ≡ index) × (index ≡ 0)))
 
--- the same by the sizes of the children: a sibling that gives has more than 16, and one to merge with has at most 48
+-- which sibling gives, by the sizes of the children: a sibling that gives has more than 16, and one
+-- to merge with has at most 48
 abbrev pub ChoosesSibling : (ℕ → ℕ) → ℕ → ℕ → Option Sibling → Type 0
-ChoosesSibling size place slot (Some Left) = (suc slot ≡ place) × (16 < size slot)
-ChoosesSibling size place slot (Some Right) = (slot ≡ place) × (16 < size (suc slot))
-ChoosesSibling size place slot None = ((suc slot ≡ place) × (size slot ≤ 48)) ⊎ ((slot ≡ place) × (place ≡ 0) × (size (suc slot) ≤ 48))
+ChoosesSibling size index slot (Some Left) = (suc slot ≡ index) × (16 < size slot)
+ChoosesSibling size index slot (Some Right) = (slot ≡ index) × (16 < size (suc slot))
+ChoosesSibling size index slot None = ((suc slot ≡ index) × (size slot ≤ 48)) ⊎ ((slot ≡ index) × (index ≡ 0) × (size (suc slot) ≤ 48))
 
 module _ {K V A : Type 0} (slots : Slots (Inner K A) (Leaf K V)) where
-  -- how many keys or pairs a node has
+  -- the number of keys or pairs of a node
   abbrev pub node_size : NodeId → ℕ
   node_size (kind.Leaf id) = length (leaf_pairs (slots.leaf id.0))
   node_size (kind.Inner id) = length (inner_keys (slots.inner id.0))
 
-  -- and the child at a place; 0 past the end
+  -- the number of keys or pairs of the child at an index; 0 past the end
   abbrev pub child_size : List NodeId → ℕ → ℕ
   child_size [] i = 0
   child_size (c ∷ cs) zero = node_size c
@@ -49,14 +51,15 @@ module _ {K V A : Type 0} (slots : Slots (Inner K A) (Leaf K V)) where
   IsNodeAt (kind.Leaf id) = IsPresent (slots.leaf id.0)
   IsNodeAt (kind.Inner id) = IsPresent (slots.inner id.0)
 
-  -- inner nodes stand there, or leaves
+  -- all ids are those of present inner nodes (`AllInner`), or of present leaves (`AllLeaves`)
   abbrev pub AllInner : List NodeId → Type 0
   AllInner cs = AllByRecursion IsInnerAt cs
 
   abbrev pub AllLeaves : List NodeId → Type 0
   AllLeaves cs = AllByRecursion IsLeafAt cs
 
-  -- of a node: only inner nodes stand below it, or only leaves, or either, and it has one child more than keys
+  -- the children of a node are present inner nodes, or present leaves, or either; and the node has
+  -- one child more than keys (`HasOneChildMore`)
   abbrev pub InnersBelow : InnerNodeId → Type 0
   InnersBelow id = AllInner (inner_children (slots.inner id.0))
 
@@ -69,25 +72,27 @@ module _ {K V A : Type 0} (slots : Slots (Inner K A) (Leaf K V)) where
   abbrev pub HasOneChildMore : InnerNodeId → Type 0
   HasOneChildMore id = length (inner_children (slots.inner id.0)) ≡ length (inner_keys (slots.inner id.0)) + 1
 
-  -- it has a child at a place, and at most 65 of them
-  abbrev pub HasPlaceBelow : InnerNodeId → ℕ → Type 0
-  HasPlaceBelow id place = IsPresent (slots.inner id.0) × (place < length (inner_children (slots.inner id.0))) × (length (inner_children (slots.inner id.0)) ≤ 65)
+  -- a node is present, has a child at an index, and has at most 65 children
+  abbrev pub HasIndexBelow : InnerNodeId → ℕ → Type 0
+  HasIndexBelow id index = IsPresent (slots.inner id.0) × (index < length (inner_children (slots.inner id.0))) × (length (inner_children (slots.inner id.0)) ≤ 65)
 
-  -- its child at a place, and how many keys or pairs that has; 0 past the end
+  -- the child of a node at an index, and the number of its keys or pairs (`size_below`); 0 past the
+  -- end
   abbrev pub HasChild : InnerNodeId → ℕ → NodeId → Type 0
-  HasChild id place child = slice_get (inner_children (slots.inner id.0)) place ≡ Some child
+  HasChild id index child = slice_get (inner_children (slots.inner id.0)) index ≡ Some child
 
   abbrev pub size_below : InnerNodeId → ℕ → ℕ
   size_below id = child_size (inner_children (slots.inner id.0))
 
-  -- of two leaves, or of two inner nodes: the giver has one to give, and the other has room
+  -- the giver of two leaves, or of two inner nodes, has one to give, and the other has room
   abbrev pub CanGivePair : Sibling → LeafNodeId → LeafNodeId → Type 0
   CanGivePair giver left right = CanGive giver (length (leaf_pairs (slots.leaf left.0))) (length (leaf_pairs (slots.leaf right.0)))
 
   abbrev pub CanGiveChild : Sibling → InnerNodeId → InnerNodeId → Type 0
   CanGiveChild giver left right = CanGive giver (length (inner_keys (slots.inner left.0))) (length (inner_keys (slots.inner right.0)))
 
-  -- the pairs of both fit in one; the keys of both do, with the separator
+  -- the pairs of two leaves fit in one leaf, or the keys of two inner nodes, with the separator,
+  -- fit in one node
   abbrev pub FitInOneLeaf : LeafNodeId → LeafNodeId → Type 0
   FitInOneLeaf left right = length (leaf_pairs (slots.leaf left.0)) + length (leaf_pairs (slots.leaf right.0)) ≤ 64
 

@@ -1,4 +1,4 @@
-//! Nodes that underflow: siblings rotate or merge, and each step can be undone.
+//! Rebalances nodes that underflow: siblings rotate or merge, and each step can be undone.
 #![tactic(auto)]
 
 pub mod rotate_merge;

@@ -1,21 +1,20 @@
-//! Two siblings and their parent, all three in hand: one child or pair rotates, or the siblings
-//! merge. What can't be had on the way is refused, and then all three nodes are again what they
-//! were.
+//! Rotations and merges of two siblings under their parent, with all three nodes borrowed. If an
+//! allocation fails on the way, all three nodes are again what they were.
 ghost use Rattle.std.specs.Prelude.{◌≡◌, ◌<◌, ◌≤◌, ◌+◌, [], length, IfOk, IsOk, OnErr, IfErr};
 ghost use Rattle.bptree_keys.specs.Keys.{AllInfallible};
 ghost use Rattle.bptree_rebalancing.specs.Transfer.{other_of, CanGive, MovesChild, ExchangesJoint};
-ghost use Rattle.bptree_rebalancing.specs.RotateMerge.{MergesLeaves, RotatesInners, MergesInners, TakesInner, TakesInners, TakesLeaf, TellsLeaves, UndoesMergeInners, UndoesMergeLeaves, UndoesRotateInners};
-ghost use Rattle.bptree_ascent.specs.Sums.{HasPlace, SumsUp};
+ghost use Rattle.bptree_rebalancing.specs.RotateMerge.{MergesLeaves, RotatesInners, MergesInners, TakesInner, TakesInners, TakesLeaf, ReportsLeaves, UndoesMergeInners, UndoesMergeLeaves, UndoesRotateInners};
+ghost use Rattle.bptree_propagation.specs.Sums.{HasChildAt, SumsUp};
 
 use bptree_arguments::argument::Argument;
-use bptree_ascent::node_changes::{Division, Resummed, resum, take_entry};
 use bptree_keys::key::Key;
 use bptree_keys::node_id::{LeafNodeId, NodeId};
 use bptree_nodes::inner_node::InnerNode;
 use bptree_nodes::leaf_node::LeafNode;
+use bptree_propagation::node_changes::{NodeSplit, SummaryUpdate, insert_child_entry, resum};
 use std::alloc::AllocError;
 
-/// Which of two siblings gives to the other in a rotation.
+/// The sibling that gives to the other in a rotation.
 #[derive(Clone, Copy)]
 pub enum Sibling {
     Left,
@@ -33,23 +32,22 @@ impl Sibling {
     }
 }
 
-/// What stood in a node on both sides of a separator: the summaries of the two children.
+/// The summaries that a node had of the children on both sides of a separator.
 #[derive(Drop)]
-pub struct Sides<A> {
+pub struct ChildSummaries<A> {
     pub left: A,
     pub right: A,
 }
 
-/// The same with the separator.
+/// A separator, and the summaries that a node had of the children on both sides of it.
 #[derive(Drop)]
-pub struct Joint<K, A> {
+pub struct ParentEntry<K, A> {
     pub left: A,
     pub separator: K,
     pub right: A,
 }
 
-// One child of the giver goes to its sibling. It returns the separator that then stands between the
-// two.
+// Moves one child of the giver to its sibling, and returns the new separator between the two.
 fn move_child<K: Drop, A: Drop>(
     giver: Sibling,
     left: &mut InnerNode<K, A>,
@@ -67,58 +65,59 @@ fn move_child<K: Drop, A: Drop>(
     }
 }
 
-/// The summaries of two leaves, and a separator between them.
-pub(crate) fn joint_of<K: Key, V: Drop, A: Argument<K>>(
+/// Returns the summaries of two leaves, and a separator between them.
+pub(crate) fn parent_entry<K: Key, V: Drop, A: Argument<K>>(
     left: &LeafNode<K, V>,
     right: &LeafNode<K, V>,
-) -> Result<Joint<K, A>, AllocError>
+) -> Result<ParentEntry<K, A>, AllocError>
     requires { 0 < length right.now.pairs }
-    ensures sums { IfOk result (TellsLeaves K.cmp A.is_summary left.now right.now) }
+    ensures sums { IfOk result (ReportsLeaves K.cmp A.is_summary left.now right.now) }
     ensures infallible { A.needs_no_memory → AllInfallible K.is_infallible → IsOk result }
 {
     let separator = right.data_at(0).0.clone()?;
     let left = A::from_leaf(left.keys())?;
     let right = A::from_leaf(right.keys())?;
-    Ok(Joint {
+    Ok(ParentEntry {
         left,
         separator,
         right,
     })
 }
 
-/// Puts a separator, and the summaries of the children on both sides, in place of what is in a
-/// node. It returns that.
+/// Replaces a separator in a node, and the summaries of the children on both sides of it. Returns
+/// the old ones.
 pub(crate) fn exchange_joint<K: Key, A: Argument<K>>(
     node: &mut InnerNode<K, A>,
     slot: usize,
-    joint: Joint<K, A>,
-) -> Joint<K, A>
-    requires place { HasPlace node.old (slot + 1) }
+    joint: ParentEntry<K, A>,
+) -> ParentEntry<K, A>
+    requires index { HasChildAt node.old (slot + 1) }
     requires most { length node.old.keys ≤ 64 }
     ensures { ExchangesJoint slot node.old joint result node.new }
 {
     let separator = node.set_key(slot, joint.separator);
     let left = node.set_argument(slot, joint.left);
     let right = node.set_argument(slot + 1, joint.right);
-    Joint {
+    ParentEntry {
         left,
         separator,
         right,
     }
 }
 
-/// The same, and asks for the node's summary. It returns that, and what stood there; refused, the
-/// node is as it was.
+/// Replaces a separator in a node, and the summaries of the children on both sides of it, and
+/// computes the node's summary. Returns that summary and the old ones. If the node's summary fails,
+/// the node is unchanged.
 pub(crate) fn take_joint<K: Key, A: Argument<K>>(
     node: &mut InnerNode<K, A>,
     slot: usize,
-    joint: Joint<K, A>,
-) -> Result<(A, Joint<K, A>), AllocError>
-    requires place { HasPlace node.old (slot + 1) }
+    joint: ParentEntry<K, A>,
+) -> Result<(A, ParentEntry<K, A>), AllocError>
+    requires index { HasChildAt node.old (slot + 1) }
     requires most { length node.old.keys ≤ 64 }
     ensures exchanges { IfOk result (λ done. ExchangesJoint slot node.old joint done.1 node.new) }
     ensures sums { IfOk result (λ done. SumsUp K.cmp A.is_summary node.new done.0) }
-    ensures refused { OnErr result (node.new ≡ node.old) }
+    ensures unchanged { OnErr result (node.new ≡ node.old) }
     ensures infallible { A.needs_no_memory → IsOk result }
 {
     let before = exchange_joint(node, slot, joint);
@@ -131,23 +130,24 @@ pub(crate) fn take_joint<K: Key, A: Argument<K>>(
     }
 }
 
-// Asks for the summaries of two inner nodes, and puts them with the separator between the two and
-// the number of the right one into a node without that entry. It returns the node's summary and the
-// left node's old one. Refused, it returns the separator.
-fn ask_inners<K: Key, A: Argument<K>>(
+// Computes the summaries of two inner nodes, and inserts them, with the separator between the two
+// and the id of the right one, into a parent without that entry. Returns the parent's summary and
+// the left node's old one. If a summary fails, it returns the separator, and the parent is
+// unchanged.
+fn resummarize_inners<K: Key, A: Argument<K>>(
     node: &mut InnerNode<K, A>,
     slot: usize,
     child: NodeId,
     left: &InnerNode<K, A>,
     separator: K,
     right: &InnerNode<K, A>,
-) -> Result<Resummed<A>, K>
-    requires place { HasPlace node.old slot }
+) -> Result<SummaryUpdate<A>, K>
+    requires index { HasChildAt node.old slot }
     requires room { length node.old.keys < 64 }
     ensures rotates { IfOk result (TakesInners K.cmp A.is_summary node.old slot child left.now separator right.now node.new) }
     ensures sums { IfOk result (λ sums. SumsUp K.cmp A.is_summary node.new sums.above) }
-    ensures refused { OnErr result (node.new ≡ node.old) }
-    ensures handed_back { IfErr result (λ back. back ≡ separator) }
+    ensures unchanged { OnErr result (node.new ≡ node.old) }
+    ensures returned { IfErr result (λ back. back ≡ separator) }
     ensures infallible { A.needs_no_memory → IsOk result }
 {
     let Ok(left) = A::from_inner(left.keys(), left.arguments()) else {
@@ -156,29 +156,29 @@ fn ask_inners<K: Key, A: Argument<K>>(
     let Ok(right) = A::from_inner(right.keys(), right.arguments()) else {
         return Err(separator);
     };
-    let division = Division {
+    let division = NodeSplit {
         left,
         separator,
         node: child,
         right,
     };
-    match take_entry(node, slot, division) {
+    match insert_child_entry(node, slot, division) {
         Ok(sums) => Ok(sums),
         Err(division) => Err(division.separator),
     }
 }
 
-// Asks for the summary of a leaf, and puts it into its node. It returns the node's summary and the
-// leaf's old one.
-fn ask_leaf<K: Key, V: Drop, A: Argument<K>>(
+// Computes the summary of a leaf, and stores it in the parent. Returns the parent's summary and the
+// leaf's old one. If a summary fails, the parent is unchanged.
+fn resummarize_leaf<K: Key, V: Drop, A: Argument<K>>(
     node: &mut InnerNode<K, A>,
     slot: usize,
     leaf: &LeafNode<K, V>,
-) -> Result<Resummed<A>, AllocError>
-    requires place { slot < length node.old.arguments }
+) -> Result<SummaryUpdate<A>, AllocError>
+    requires index { slot < length node.old.arguments }
     ensures merges { IfOk result (TakesLeaf K.cmp A.is_summary node.old slot leaf.now node.new) }
     ensures sums { IfOk result (λ sums. SumsUp K.cmp A.is_summary node.new sums.above) }
-    ensures refused { OnErr result (node.new ≡ node.old) }
+    ensures unchanged { OnErr result (node.new ≡ node.old) }
     ensures infallible { A.needs_no_memory → IsOk result }
 {
     let both = A::from_leaf(leaf.keys())?;
@@ -188,16 +188,17 @@ fn ask_leaf<K: Key, V: Drop, A: Argument<K>>(
     }
 }
 
-// The same of an inner node.
+// Computes the summary of an inner node, and stores it in the parent. Returns the parent's summary
+// and the inner node's old one. If a summary fails, the parent is unchanged.
 fn ask_inner<K: Key, A: Argument<K>>(
     node: &mut InnerNode<K, A>,
     slot: usize,
     child: &InnerNode<K, A>,
-) -> Result<Resummed<A>, AllocError>
-    requires place { slot < length node.old.arguments }
+) -> Result<SummaryUpdate<A>, AllocError>
+    requires index { slot < length node.old.arguments }
     ensures merges { IfOk result (TakesInner K.cmp A.is_summary node.old slot child.now node.new) }
     ensures sums { IfOk result (λ sums. SumsUp K.cmp A.is_summary node.new sums.above) }
-    ensures refused { OnErr result (node.new ≡ node.old) }
+    ensures unchanged { OnErr result (node.new ≡ node.old) }
     ensures infallible { A.needs_no_memory → IsOk result }
 {
     let both = A::from_inner(child.keys(), child.arguments())?;
@@ -207,15 +208,16 @@ fn ask_inner<K: Key, A: Argument<K>>(
     }
 }
 
-/// Merges two leaves into the left one; the right one stays empty. It returns the parent's summary,
-/// and what stood in the parent; refused, all three are as they were.
+/// Merges two leaves into the left one; the right one stays empty. Returns the parent's summary,
+/// and the separator and the summaries that the parent had. If a summary fails, all three nodes are
+/// unchanged.
 pub(crate) fn merge_leaves<K: Key, V: Drop, A: Argument<K>>(
     node: &mut InnerNode<K, A>,
     slot: usize,
     left: &mut LeafNode<K, V>,
     right: &mut LeafNode<K, V>,
-) -> Result<(A, Joint<K, A>), AllocError>
-    requires place { HasPlace node.old (slot + 1) }
+) -> Result<(A, ParentEntry<K, A>), AllocError>
+    requires index { HasChildAt node.old (slot + 1) }
     requires most { length node.old.keys ≤ 64 }
     requires fits { length left.old.pairs + length right.old.pairs ≤ 64 }
     ensures merges { IfOk result (λ done. MergesLeaves K.cmp A.is_summary slot node.old left.old right.old node.new left.new right.new done.1) }
@@ -227,11 +229,11 @@ pub(crate) fn merge_leaves<K: Key, V: Drop, A: Argument<K>>(
 {
     let kept = left.len();
     let next = left.next();
-    left.take_over(right);
+    left.append_node(right);
     let (separator, child, old) = node.remove_at(slot);
-    match ask_leaf(node, slot, left) {
-        Ok(Resummed { above, old: before }) => {
-            let joint = Joint {
+    match resummarize_leaf(node, slot, left) {
+        Ok(SummaryUpdate { above, old: before }) => {
+            let joint = ParentEntry {
                 left: before,
                 separator,
                 right: old,
@@ -240,25 +242,25 @@ pub(crate) fn merge_leaves<K: Key, V: Drop, A: Argument<K>>(
         }
         Err(refusal) => {
             node.insert_at(slot, separator, child, old);
-            left.hand_over(kept, right);
+            left.move_tail_to(kept, right);
             left.set_next(next);
             Err(refusal)
         }
     }
 }
 
-/// Undoes what `merge_leaves` did to a left leaf that had `kept` pairs.
+/// Undoes `merge_leaves`, before which the left leaf had `kept` pairs.
 pub(crate) fn undo_merge_leaves<K: Key, V: Drop, A: Argument<K>>(
     node: &mut InnerNode<K, A>,
     slot: usize,
-    joint: Joint<K, A>,
+    joint: ParentEntry<K, A>,
     child: NodeId,
     left: &mut LeafNode<K, V>,
     kept: usize,
     next: Option<LeafNodeId>,
     right: &mut LeafNode<K, V>,
 )
-    requires place { HasPlace node.old slot }
+    requires index { HasChildAt node.old slot }
     requires room { length node.old.keys < 64 }
     requires kept { kept ≤ length left.old.pairs }
     requires empty { right.old.pairs ≡ [] }
@@ -266,21 +268,21 @@ pub(crate) fn undo_merge_leaves<K: Key, V: Drop, A: Argument<K>>(
 {
     node.set_argument(slot, joint.left);
     node.insert_at(slot, joint.separator, child, joint.right);
-    left.hand_over(kept, right);
+    left.move_tail_to(kept, right);
     left.set_next(next);
 }
 
-/// Rotates a child from one inner node to its sibling. The separator goes down to the one, and a
-/// key of the other comes up. It returns the parent's summary, and what stood in the parent;
-/// refused, all three are as they were.
+/// Rotates a child from one inner node to its sibling. The separator moves down to the sibling, and
+/// a key of the giver moves up. Returns the parent's summary, and the summaries that the parent
+/// had. If a summary fails, all three nodes are unchanged.
 pub(crate) fn rotate_inners<K: Key, A: Argument<K>>(
     node: &mut InnerNode<K, A>,
     slot: usize,
     giver: Sibling,
     left: &mut InnerNode<K, A>,
     right: &mut InnerNode<K, A>,
-) -> Result<(A, Sides<A>), AllocError>
-    requires place { HasPlace node.old (slot + 1) }
+) -> Result<(A, ChildSummaries<A>), AllocError>
+    requires index { HasChildAt node.old (slot + 1) }
     requires most { length node.old.keys ≤ 64 }
     requires rotates { CanGive giver (length left.old.keys) (length right.old.keys) }
     requires left { 0 < length left.old.children }
@@ -294,9 +296,9 @@ pub(crate) fn rotate_inners<K: Key, A: Argument<K>>(
 {
     let (separator, child, old) = node.remove_at(slot);
     let up = move_child(giver, left, separator, right);
-    match ask_inners(node, slot, child, left, up, right) {
-        Ok(Resummed { above, old: before }) => {
-            let sides = Sides {
+    match resummarize_inners(node, slot, child, left, up, right) {
+        Ok(SummaryUpdate { above, old: before }) => {
+            let sides = ChildSummaries {
                 left: before,
                 right: old,
             };
@@ -310,16 +312,16 @@ pub(crate) fn rotate_inners<K: Key, A: Argument<K>>(
     }
 }
 
-/// Undoes what `rotate_inners` did.
+/// Undoes `rotate_inners`.
 pub(crate) fn undo_rotate_inners<K: Key, A: Argument<K>>(
     node: &mut InnerNode<K, A>,
     slot: usize,
     giver: Sibling,
-    sides: Sides<A>,
+    sides: ChildSummaries<A>,
     left: &mut InnerNode<K, A>,
     right: &mut InnerNode<K, A>,
 )
-    requires place { HasPlace node.old (slot + 1) }
+    requires index { HasChildAt node.old (slot + 1) }
     requires most { length node.old.keys ≤ 64 }
     requires rotates { CanGive (other_of giver) (length left.old.keys) (length right.old.keys) }
     requires left { 0 < length left.old.children }
@@ -333,14 +335,15 @@ pub(crate) fn undo_rotate_inners<K: Key, A: Argument<K>>(
 }
 
 /// Merges two inner nodes into the left one, with the separator between; the right one stays as an
-/// empty shell.
+/// empty shell. Returns the parent's summary, and the summaries that the parent had. If a summary
+/// fails, all three nodes are unchanged.
 pub(crate) fn merge_inners<K: Key, A: Argument<K>>(
     node: &mut InnerNode<K, A>,
     slot: usize,
     left: &mut InnerNode<K, A>,
     right: &mut InnerNode<K, A>,
-) -> Result<(A, Sides<A>), AllocError>
-    requires place { HasPlace node.old (slot + 1) }
+) -> Result<(A, ChildSummaries<A>), AllocError>
+    requires index { HasChildAt node.old (slot + 1) }
     requires most { length node.old.keys ≤ 64 }
     requires left { 0 < length left.old.children }
     requires right { 0 < length right.old.children }
@@ -355,41 +358,41 @@ pub(crate) fn merge_inners<K: Key, A: Argument<K>>(
     let kept = left.len();
     right.recall();
     let (separator, child, old) = node.remove_at(slot);
-    left.take_over(separator, right);
+    left.append_node(separator, right);
     match ask_inner(node, slot, left) {
-        Ok(Resummed { above, old: before }) => {
-            let sides = Sides {
+        Ok(SummaryUpdate { above, old: before }) => {
+            let sides = ChildSummaries {
                 left: before,
                 right: old,
             };
             Ok((above, sides))
         }
         Err(refusal) => {
-            let separator = left.hand_over(kept + 1, right);
+            let separator = left.move_tail_to(kept + 1, right);
             node.insert_at(slot, separator, child, old);
             Err(refusal)
         }
     }
 }
 
-/// Undoes what `merge_inners` did to a left node that had `kept` keys.
+/// Undoes `merge_inners`, before which the left node had `kept` keys.
 pub(crate) fn undo_merge_inners<K: Key, A: Argument<K>>(
     node: &mut InnerNode<K, A>,
     slot: usize,
-    sides: Sides<A>,
+    sides: ChildSummaries<A>,
     child: NodeId,
     left: &mut InnerNode<K, A>,
     kept: usize,
     right: &mut InnerNode<K, A>,
 )
-    requires place { HasPlace node.old slot }
+    requires index { HasChildAt node.old slot }
     requires room { length node.old.keys < 64 }
     requires kept { kept < length left.old.keys }
     requires most { kept ≤ 64 }
     requires shell { right.old.children ≡ [] }
     ensures undoes { UndoesMergeInners K.cmp A.is_summary slot sides node.old left.old right.old node.new left.new right.new child kept }
 {
-    let separator = left.hand_over(kept + 1, right);
+    let separator = left.move_tail_to(kept + 1, right);
     node.set_argument(slot, sides.left);
     node.insert_at(slot, separator, child, sides.right);
 }

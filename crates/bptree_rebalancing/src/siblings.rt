@@ -1,17 +1,17 @@
-//! Two siblings in a store, under their parent: they rotate or merge. Each change can be undone,
-//! and a refused one leaves every slot as it was.
+//! Rotations and merges of two siblings in a store, under their parent. Each change can be undone.
+//! If a change fails, every slot is as it was.
 ghost use Rattle.std.specs.Prelude.{◌≡◌, ◌<◌, ◌≤◌, ◌+◌, length, IfOk, IsOk, OnErr};
-ghost use Rattle.bptree_ascent.specs.Failing.{NeverFails};
+ghost use Rattle.bptree_propagation.specs.Failing.{NeverFails};
 ghost use Rattle.bptree_nodes.specs.Slot.{IsPresent};
-ghost use Rattle.bptree_shape.specs.Shape.{leaf_pairs, inner_keys};
+ghost use Rattle.bptree_invariant.specs.Shape.{leaf_pairs, inner_keys};
 ghost use Rattle.bptree_keys.specs.declared.node_id.NodeId.TheVariants as kind;
-ghost use Rattle.bptree_rebalancing.specs.RotateMerge.{AreInnersBeside, RotatesLeavesAt, MergesLeavesAt, RotatesInnersAt, MergesInnersAt, HaveMergedInners, HaveMergedLeaves, HaveRotatedInners, HaveRotatedLeaves, MovesPairAt, RetellsLeavesAt, UndoesMergeInnersAt, UndoesMergeLeavesAt, UndoesRotateInnersAt, UndoesRotateLeavesAt};
-ghost use Rattle.bptree_ascent.specs.Sums.{PlaceAt, SumsUpAt, SumsUpFirst};
+ghost use Rattle.bptree_rebalancing.specs.RotateMerge.{AreInnersBeside, RotatesLeavesAt, MergesLeavesAt, RotatesInnersAt, MergesInnersAt, HaveMergedInners, HaveMergedLeaves, HaveRotatedInners, HaveRotatedLeaves, MovesPairAt, ResummarizesLeavesAt, UndoesMergeInnersAt, UndoesMergeLeavesAt, UndoesRotateInnersAt, UndoesRotateLeavesAt};
+ghost use Rattle.bptree_propagation.specs.Sums.{IndexAt, SumsUpAt, SumsUpFirst};
 ghost use Rattle.bptree_rebalancing.specs.ChooseSibling.{CanGiveChild, CanGivePair, FitInOneLeaf, FitInOneNode};
 
 use crate::rotate_merge::{
-    Joint, Sibling, Sides, exchange_joint, joint_of, merge_inners, merge_leaves, rotate_inners,
-    take_joint, undo_merge_inners, undo_merge_leaves, undo_rotate_inners,
+    ChildSummaries, ParentEntry, Sibling, exchange_joint, merge_inners, merge_leaves, parent_entry,
+    rotate_inners, take_joint, undo_merge_inners, undo_merge_leaves, undo_rotate_inners,
 };
 use bptree_keys::node_id::{InnerNodeId, LeafNodeId, NodeId};
 use bptree_nodes::inner_node::InnerNode;
@@ -19,7 +19,7 @@ use bptree_nodes::leaf_node::LeafNode;
 use bptree_stores::node_stores::NodeStore;
 use std::alloc::AllocError;
 
-// One pair of the giver goes to its sibling.
+// Moves one pair of the giver to its sibling.
 fn move_pair_at<S: NodeStore>(store: &mut S, giver: Sibling, left: LeafNodeId, right: LeafNodeId)
     requires left { IsPresent ((S.slots store.old).leaf left.0) }
     requires right { IsPresent ((S.slots store.old).leaf right.0) }
@@ -39,31 +39,31 @@ fn move_pair_at<S: NodeStore>(store: &mut S, giver: Sibling, left: LeafNodeId, r
     }
 }
 
-// Asks for the summaries of two leaves, and for a separator between them, and puts these into the
-// node above. It returns the summary of that node, and what stood there.
-fn retell_leaves_at<S: NodeStore>(
+// Computes the summaries of two leaves and a separator between them, and stores these in the
+// parent. Returns the parent's summary and what it had before.
+fn resummarize_leaves_at<S: NodeStore>(
     store: &mut S,
     id: InnerNodeId,
     slot: usize,
     left: LeafNodeId,
     right: LeafNodeId,
-) -> Result<(S::Argument, Joint<S::K, S::Argument>), AllocError>
-    requires place { PlaceAt ((S.slots store.old).inner id.0) (slot + 1) }
+) -> Result<(S::Argument, ParentEntry<S::K, S::Argument>), AllocError>
+    requires index { IndexAt ((S.slots store.old).inner id.0) (slot + 1) }
     requires most { length (inner_keys ((S.slots store.old).inner id.0)) ≤ 64 }
     requires left { IsPresent ((S.slots store.old).leaf left.0) }
     requires right { IsPresent ((S.slots store.old).leaf right.0) }
     requires some { 0 < length (leaf_pairs ((S.slots store.old).leaf right.0)) }
-    ensures retells { IfOk result (λ done. RetellsLeavesAt S.K.cmp S.Argument.is_summary slot (S.slots store.old) (S.slots store.new) id left right done.1) }
+    ensures resummarizes { IfOk result (λ done. ResummarizesLeavesAt S.K.cmp S.Argument.is_summary slot (S.slots store.old) (S.slots store.new) id left right done.1) }
     ensures sums { IfOk result (SumsUpFirst S.K.cmp S.Argument.is_summary (S.slots store.new) id) }
-    ensures refused { OnErr result (S.slots store.new ≡ S.slots store.old) }
+    ensures unchanged { OnErr result (S.slots store.new ≡ S.slots store.old) }
     ensures infallible { NeverFails S.Argument.needs_no_memory S.K.is_infallible result }
 {
-    let joint = joint_of(store.get_leaf(left), store.get_leaf(right))?;
+    let joint = parent_entry(store.get_leaf(left), store.get_leaf(right))?;
     take_joint(store.get_mut_inner(id), slot, joint)
 }
 
-/// Rotates a pair from one leaf to its sibling. It returns the summary of the parent, and what
-/// stood there.
+/// Rotates a pair from one leaf to its sibling. Returns the parent's summary, and the separator and
+/// the summaries that the parent had.
 pub(crate) fn rotate_leaves_at<S: NodeStore>(
     store: &mut S,
     id: InnerNodeId,
@@ -71,8 +71,8 @@ pub(crate) fn rotate_leaves_at<S: NodeStore>(
     giver: Sibling,
     left: LeafNodeId,
     right: LeafNodeId,
-) -> Result<(S::Argument, Joint<S::K, S::Argument>), AllocError>
-    requires place { PlaceAt ((S.slots store.old).inner id.0) (slot + 1) }
+) -> Result<(S::Argument, ParentEntry<S::K, S::Argument>), AllocError>
+    requires index { IndexAt ((S.slots store.old).inner id.0) (slot + 1) }
     requires most { length (inner_keys ((S.slots store.old).inner id.0)) ≤ 64 }
     requires left { IsPresent ((S.slots store.old).leaf left.0) }
     requires right { IsPresent ((S.slots store.old).leaf right.0) }
@@ -81,12 +81,12 @@ pub(crate) fn rotate_leaves_at<S: NodeStore>(
     requires apart { left.0 ≡ right.0 → ⊥ }
     ensures rotates { IfOk result (λ done. RotatesLeavesAt S.K.cmp S.Argument.is_summary slot (S.slots store.old) (S.slots store.new) id giver left right done.1) }
     ensures sums { IfOk result (SumsUpFirst S.K.cmp S.Argument.is_summary (S.slots store.new) id) }
-    ensures refused { OnErr result (S.slots store.new ≡ S.slots store.old) }
+    ensures unchanged { OnErr result (S.slots store.new ≡ S.slots store.old) }
     ensures infallible { NeverFails S.Argument.needs_no_memory S.K.is_infallible result }
 {
     move_pair_at(store, giver, left, right);
-    match retell_leaves_at(store, id, slot, left, right) {
-        Ok(told) => Ok(told),
+    match resummarize_leaves_at(store, id, slot, left, right) {
+        Ok(reported) => Ok(reported),
         Err(refusal) => {
             move_pair_at(store, giver.other(), left, right);
             Err(refusal)
@@ -94,13 +94,13 @@ pub(crate) fn rotate_leaves_at<S: NodeStore>(
     }
 }
 
-/// Undoes what `rotate_leaves_at` did.
+/// Undoes `rotate_leaves_at`.
 pub(crate) fn undo_rotate_leaves_at<S: NodeStore>(
     store: &mut S,
     id: InnerNodeId,
     slot: usize,
     giver: Sibling,
-    joint: Joint<S::K, S::Argument>,
+    joint: ParentEntry<S::K, S::Argument>,
     left: LeafNodeId,
     right: LeafNodeId,
 )
@@ -111,8 +111,9 @@ pub(crate) fn undo_rotate_leaves_at<S: NodeStore>(
     move_pair_at(store, giver.other(), left, right);
 }
 
-/// Merges two leaves under the number of the left one. It returns the summary of the parent, what
-/// stood there, and the emptied right leaf, whose number stays reserved.
+/// Merges two leaves into the left one, which keeps its id. Returns the parent's summary, the
+/// separator and the summaries that the parent had, and the emptied right leaf, whose id stays
+/// reserved.
 pub(crate) fn merge_leaves_at<S: NodeStore>(
     store: &mut S,
     id: InnerNodeId,
@@ -122,12 +123,12 @@ pub(crate) fn merge_leaves_at<S: NodeStore>(
 ) -> Result<
     (
         S::Argument,
-        Joint<S::K, S::Argument>,
+        ParentEntry<S::K, S::Argument>,
         Box<LeafNode<S::K, S::V>>,
     ),
     AllocError,
 >
-    requires place { PlaceAt ((S.slots store.old).inner id.0) (slot + 1) }
+    requires index { IndexAt ((S.slots store.old).inner id.0) (slot + 1) }
     requires most { length (inner_keys ((S.slots store.old).inner id.0)) ≤ 64 }
     requires left { IsPresent ((S.slots store.old).leaf left.0) }
     requires right { IsPresent ((S.slots store.old).leaf right.0) }
@@ -135,7 +136,7 @@ pub(crate) fn merge_leaves_at<S: NodeStore>(
     requires apart { left.0 ≡ right.0 → ⊥ }
     ensures merges { IfOk result (λ done. MergesLeavesAt S.K.cmp S.Argument.is_summary slot (S.slots store.old) (S.slots store.new) id left right done.1 done.2.value) }
     ensures sums { IfOk result (λ done. SumsUpAt S.K.cmp S.Argument.is_summary ((S.slots store.new).inner id.0) done.0) }
-    ensures refused { OnErr result (S.slots store.new ≡ S.slots store.old) }
+    ensures unchanged { OnErr result (S.slots store.new ≡ S.slots store.old) }
     ensures infallible { S.Argument.needs_no_memory → IsOk result }
 {
     let mut node = store.take_inner(id);
@@ -153,12 +154,12 @@ pub(crate) fn merge_leaves_at<S: NodeStore>(
     }
 }
 
-/// Undoes what `merge_leaves_at` did to a left leaf that had `kept` pairs.
+/// Undoes `merge_leaves_at`, before which the left leaf had `kept` pairs.
 pub(crate) fn undo_merge_leaves_at<S: NodeStore>(
     store: &mut S,
     id: InnerNodeId,
     slot: usize,
-    joint: Joint<S::K, S::Argument>,
+    joint: ParentEntry<S::K, S::Argument>,
     left: LeafNodeId,
     kept: usize,
     right: LeafNodeId,
@@ -192,12 +193,12 @@ pub(crate) fn rotate_inners_at<S: NodeStore>(
     giver: Sibling,
     left: InnerNodeId,
     right: InnerNodeId,
-) -> Result<(S::Argument, Sides<S::Argument>), AllocError>
+) -> Result<(S::Argument, ChildSummaries<S::Argument>), AllocError>
     requires siblings { AreInnersBeside (S.slots store.old) slot id left right }
     requires rotates { CanGiveChild (S.slots store.old) giver left right }
     ensures rotates { IfOk result (λ done. RotatesInnersAt S.K.cmp S.Argument.is_summary slot (S.slots store.old) (S.slots store.new) id giver left right done.1) }
     ensures sums { IfOk result (SumsUpFirst S.K.cmp S.Argument.is_summary (S.slots store.new) id) }
-    ensures refused { OnErr result (S.slots store.new ≡ S.slots store.old) }
+    ensures unchanged { OnErr result (S.slots store.new ≡ S.slots store.old) }
     ensures infallible { S.Argument.needs_no_memory → IsOk result }
 {
     let mut node = store.take_inner(id);
@@ -210,13 +211,13 @@ pub(crate) fn rotate_inners_at<S: NodeStore>(
     asked
 }
 
-/// Undoes what `rotate_inners_at` did.
+/// Undoes `rotate_inners_at`.
 pub(crate) fn undo_rotate_inners_at<S: NodeStore>(
     store: &mut S,
     id: InnerNodeId,
     slot: usize,
     giver: Sibling,
-    sides: Sides<S::Argument>,
+    sides: ChildSummaries<S::Argument>,
     left: InnerNodeId,
     right: InnerNodeId,
 )
@@ -232,7 +233,7 @@ pub(crate) fn undo_rotate_inners_at<S: NodeStore>(
     store.put_back_inner(right, other);
 }
 
-/// Merges two inner nodes under the number of the left one; the number of the emptied right one
+/// Merges two inner nodes into the left one, which keeps its id; the id of the emptied right one
 /// stays reserved.
 pub(crate) fn merge_inners_at<S: NodeStore>(
     store: &mut S,
@@ -243,7 +244,7 @@ pub(crate) fn merge_inners_at<S: NodeStore>(
 ) -> Result<
     (
         S::Argument,
-        Sides<S::Argument>,
+        ChildSummaries<S::Argument>,
         Box<InnerNode<S::K, S::Argument>>,
     ),
     AllocError,
@@ -252,7 +253,7 @@ pub(crate) fn merge_inners_at<S: NodeStore>(
     requires fits { FitInOneNode (S.slots store.old) left right }
     ensures merges { IfOk result (λ done. MergesInnersAt S.K.cmp S.Argument.is_summary slot (S.slots store.old) (S.slots store.new) id left right done.1 done.2.value) }
     ensures sums { IfOk result (λ done. SumsUpAt S.K.cmp S.Argument.is_summary ((S.slots store.new).inner id.0) done.0) }
-    ensures refused { OnErr result (S.slots store.new ≡ S.slots store.old) }
+    ensures unchanged { OnErr result (S.slots store.new ≡ S.slots store.old) }
     ensures infallible { S.Argument.needs_no_memory → IsOk result }
 {
     let mut node = store.take_inner(id);
@@ -270,12 +271,12 @@ pub(crate) fn merge_inners_at<S: NodeStore>(
     }
 }
 
-/// Undoes what `merge_inners_at` did to a left node that had `kept` keys.
+/// Undoes `merge_inners_at`, before which the left node had `kept` keys.
 pub(crate) fn undo_merge_inners_at<S: NodeStore>(
     store: &mut S,
     id: InnerNodeId,
     slot: usize,
-    sides: Sides<S::Argument>,
+    sides: ChildSummaries<S::Argument>,
     left: InnerNodeId,
     kept: usize,
     right: InnerNodeId,

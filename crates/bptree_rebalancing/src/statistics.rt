@@ -1,14 +1,14 @@
-//! Counters of how a tree was rebalanced.
+//! Counters of the rotations and merges of a tree.
 
 use crate::rotate_merge::Sibling;
 use crate::underflow::Level;
 
-/// How often nodes that underflowed were rebalanced, since the tree was made or last cleared. A
-/// counter stops at the greatest number.
+/// Counts how nodes that underflowed were rebalanced, since the tree was made or last cleared. A
+/// counter stops at `u64::MAX`.
 ///
-/// A rotation to the right takes one from the sibling before the node, and one to the left from the
-/// sibling behind it. A merge with the left is one with the sibling before the node, and a merge
-/// with the right one with the sibling behind it.
+/// A rotation to the right takes a pair or a child from the sibling before the node, and a rotation
+/// to the left takes one from the sibling behind it. A merge with the left is a merge with the
+/// sibling before the node, and a merge with the right is one with the sibling behind it.
 #[derive(Clone, Debug, Default, Drop)]
 pub struct Statistic {
     /// Inner nodes that took a child from the sibling before them.
@@ -32,14 +32,14 @@ pub struct Statistic {
 /// How a node that underflowed was rebalanced.
 #[derive(Clone, Copy)]
 pub(crate) enum Rebalanced {
-    /// It took a pair or a child from the sibling on that side.
+    /// The node took a pair or a child from the sibling on this side.
     Rotated(Sibling),
-    /// It merged with the sibling on that side.
+    /// The node merged with the sibling on this side.
     Merged(Sibling),
 }
 
 impl Statistic {
-    /// Adds one to the counter of what was done with a node of a level.
+    /// Adds one to the counter of this kind of rebalancing at a level.
     pub(crate) fn count(&mut self, level: Level, done: Rebalanced) {
         let counter = match (level, done) {
             (Level::Leaf, Rebalanced::Rotated(Sibling::Left)) => &mut self.rotate_right_leaf,

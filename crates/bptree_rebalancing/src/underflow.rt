@@ -1,11 +1,11 @@
-//! Underflow in a tree that is in a store: which sibling a node rotates or merges with, and inner
-//! nodes that are rebalanced up the path.
+//! Underflow in a tree that is in a store: chooses the sibling that a node rotates or merges with,
+//! and rebalances inner nodes up the path.
 ghost use Rattle.std.specs.Prelude.{◌≡◌, ◌<◌, ◌≤◌, ◌+◌, IsOk, OnErr, IsTrue};
 ghost use Rattle.bptree_keys.specs.declared.node_id.NodeId.TheVariants as kind;
-ghost use Rattle.bptree_ascent.specs.Failing.{NeverFails};
+ghost use Rattle.bptree_propagation.specs.Failing.{NeverFails};
 ghost use Rattle.bptree_nodes.specs.Slot.{IsPresent};
-ghost use Rattle.bptree_rebalancing.specs.ChooseSibling.{ChosenSibling, ChoosesSibling, HasChild, HasOneChildMore, HasPlaceBelow, InnersBelow, LeavesBelow, NodesBelow, size_below};
-ghost use Rattle.bptree_rebalancing.specs.Trim.{ClimbsUnderflowFrom, LeafUnderflowFrom, SinksFrom, TrimsFrom};
+ghost use Rattle.bptree_rebalancing.specs.ChooseSibling.{ChosenSibling, ChoosesSibling, HasChild, HasOneChildMore, HasIndexBelow, InnersBelow, LeavesBelow, NodesBelow, size_below};
+ghost use Rattle.bptree_rebalancing.specs.Trim.{UnderflowBelowFrom, LeafUnderflowFrom, PropagatesUnderflowFrom, PropagatesToRootFrom};
 
 use crate::rotate_merge::Sibling;
 use crate::siblings::{
@@ -13,11 +13,11 @@ use crate::siblings::{
     undo_merge_leaves_at, undo_rotate_inners_at, undo_rotate_leaves_at,
 };
 use crate::statistics::{Rebalanced, Statistic};
-use bptree_ascent::ascent::{ascend, relink_next};
 use bptree_keys::entry_ref::VisitStack;
 use bptree_keys::node_id::{InnerNodeId, LeafNodeId, NodeId};
 use bptree_nodes::inner_node::INNER_MINIMUM;
 use bptree_nodes::leaf_node::LEAF_MINIMUM;
+use bptree_propagation::ascent::{ascend, relink_next};
 use bptree_stores::node_stores::NodeStore;
 use std::alloc::AllocError;
 
@@ -28,24 +28,24 @@ pub(crate) enum Level {
     Inner,
 }
 
-/// When a leaf that underflows merges with its sibling.
+/// Determines when a leaf that underflows merges with its sibling.
 ///
-/// Where pairs leave one after another at an end of a tree, early merges save most rotations.
+/// If pairs are removed one after another at an end of a tree, early merges save most rotations.
 #[derive(Clone, Copy, PartialEq, Eq)]
 pub enum Merging {
-    /// If the sibling has at most 16 pairs. Else the sibling gives one of its pairs.
+    /// Merge if the sibling has at most 16 pairs. Otherwise the sibling gives one of its pairs.
     Late,
-    /// If the sibling has at most 48 pairs. The pairs of both then fit in one leaf, with room for
-    /// one more. Else the sibling gives one of its pairs.
+    /// Merge if the sibling has at most 48 pairs. The pairs of both then fit in one leaf, with room
+    /// for one more. Otherwise the sibling gives one of its pairs.
     Early,
 }
 
-// The greatest number of pairs of a sibling in an early merge. With the 15 pairs of the leaf that
-// underflows they fit in one leaf.
+// The greatest number of pairs of a sibling in an early merge. They fit in one leaf with the 15
+// pairs of the leaf that underflows.
 const EARLY_MERGE_MOST: usize = 48;
 
 impl Merging {
-    // The greatest number of pairs of a sibling to merge with.
+    // Returns the greatest number of pairs of a sibling to merge with.
     fn most(self) -> usize
         ensures least { 16 ≤ result }
         ensures most { result ≤ 48 }
@@ -57,9 +57,10 @@ impl Merging {
     }
 }
 
-// The merge that the child at an index took part in, by the slot of the separator between the two.
-fn merged(slot: usize, place: usize) -> Rebalanced {
-    if slot < place {
+// Returns which sibling the child at index `index` merged with, by the slot of the separator
+// between the two.
+fn merged(slot: usize, index: usize) -> Rebalanced {
+    if slot < index {
         Rebalanced::Merged(Sibling::Left)
     } else {
         Rebalanced::Merged(Sibling::Right)
@@ -67,92 +68,88 @@ fn merged(slot: usize, place: usize) -> Rebalanced {
 }
 
 // The slot of the separator between a child that underflows and its sibling, and which of the two
-// gives. If neither gives, they merge.
-type SiblingChoice = (usize, Option<Sibling>);
+// gives. If it is `None`, they merge.
+type Rebalance = (usize, Option<Sibling>);
 
-// The sibling that is chosen for a child at an index. `gives` is whether the sibling before it
-// gives, `after` the number of pairs or keys of the sibling after it, or 0 if there is none, and
-// `most` the greatest number of these in a sibling to merge with.
-fn choose_sibling(place: usize, gives: bool, after: usize, most: usize) -> SiblingChoice
-    requires { IsTrue gives → 0 < place }
-    ensures { ChosenSibling place gives after most result.0 result.1 }
+// Chooses the sibling of the child at index `index`. `gives` is whether the sibling before it
+// gives, `after` is the number of pairs or keys of the sibling after it, or 0 if there is none, and
+// `most` is the greatest number of these in a sibling to merge with.
+fn choose_sibling(index: usize, gives: bool, after: usize, most: usize) -> Rebalance
+    requires { IsTrue gives → 0 < index }
+    ensures { ChosenSibling index gives after most result.0 result.1 }
 {
     if gives {
-        return (place - 1, Some(Sibling::Left));
+        return (index - 1, Some(Sibling::Left));
     }
     if after > most {
-        return (place, Some(Sibling::Right));
+        return (index, Some(Sibling::Right));
     }
-    if place > 0 {
-        return (place - 1, None);
+    if index > 0 {
+        return (index - 1, None);
     }
     (0, None)
 }
 
-// How many pairs or keys the child at a place has, where one stands there.
-fn child_len<S: NodeStore>(store: &S, id: InnerNodeId, place: usize) -> usize
+// Returns the number of pairs or keys of the child at index `index`, or 0 past the last child.
+fn child_len<S: NodeStore>(store: &S, id: InnerNodeId, index: usize) -> usize
     requires present { IsPresent ((S.slots store.now).inner id.0) }
     requires children { NodesBelow (S.slots store.now) id }
     requires long { HasOneChildMore (S.slots store.now) id }
-    ensures { result ≡ size_below (S.slots store.now) id place }
+    ensures { result ≡ size_below (S.slots store.now) id index }
 {
     let node = store.get_inner(id);
-    if place > node.len() {
+    if index > node.len() {
         return 0;
     }
-    match node.child_id(place) {
+    match node.child_id(index) {
         NodeId::Leaf(leaf) => store.get_leaf(leaf).len(),
         NodeId::Inner(inner) => store.get_inner(inner).len(),
     }
 }
 
-// Chooses the sibling that the child at an index of a node rotates or merges with. A sibling of
-// more than `most` pairs or keys can give one. If neither sibling can, the child merges. The one
-// before the child gives if it can. Of leaves, it must also have more pairs than the one behind.
+// Chooses the sibling that the child at index `index` of a node rotates or merges with. A sibling
+// of more than `most` pairs or keys can give one. If neither sibling can, the child merges. The
+// sibling before the child gives if it can; if it is a leaf, it must also have more pairs than the
+// one behind the child.
 fn sibling<S: NodeStore>(
     store: &S,
     id: InnerNodeId,
-    place: usize,
+    index: usize,
     level: Level,
     most: usize,
-) -> SiblingChoice
+) -> Rebalance
     requires children { NodesBelow (S.slots store.now) id }
     requires long { HasOneChildMore (S.slots store.now) id }
-    requires place { HasPlaceBelow (S.slots store.now) id place }
+    requires index { HasIndexBelow (S.slots store.now) id index }
     requires least { 16 ≤ most }
     requires most { most ≤ 48 }
-    ensures { ChoosesSibling (size_below (S.slots store.now) id) place result.0 result.1 }
+    ensures { ChoosesSibling (size_below (S.slots store.now) id) index result.0 result.1 }
 {
-    let after = child_len(store, id, place + 1);
-    if place == 0 {
-        return choose_sibling(place, false, after, most);
+    let after = child_len(store, id, index + 1);
+    if index == 0 {
+        return choose_sibling(index, false, after, most);
     }
-    let before = child_len(store, id, place - 1);
+    let before = child_len(store, id, index - 1);
     let gives = before > most && (level == Level::Inner || before > after);
-    choose_sibling(place, gives, after, most)
+    choose_sibling(index, gives, after, most)
 }
 
-// Which sibling the leaf at a place of a node rotates or merges with. It merges with one of at most
-// `most` pairs.
-fn leaf_sibling<S: NodeStore>(
-    store: &S,
-    id: InnerNodeId,
-    place: usize,
-    most: usize,
-) -> SiblingChoice
+// Chooses the sibling that the leaf at index `index` of a node rotates or merges with. The leaf
+// merges with a sibling of at most `most` pairs.
+fn leaf_sibling<S: NodeStore>(store: &S, id: InnerNodeId, index: usize, most: usize) -> Rebalance
     requires children { LeavesBelow (S.slots store.now) id }
     requires long { HasOneChildMore (S.slots store.now) id }
-    requires place { HasPlaceBelow (S.slots store.now) id place }
+    requires index { HasIndexBelow (S.slots store.now) id index }
     requires least { 16 ≤ most }
     requires most { most ≤ 48 }
-    ensures { ChoosesSibling (size_below (S.slots store.now) id) place result.0 result.1 }
+    ensures { ChoosesSibling (size_below (S.slots store.now) id) index result.0 result.1 }
 {
-    sibling(store, id, place, Level::Leaf, most)
+    sibling(store, id, index, Level::Leaf, most)
 }
 
-// Carries a node's new summary up the path above it, if the node may have underflowed. Then it
-// rotates or merges with a sibling, and after a merge the parent may underflow in turn. Returns a
-// summary of all keys.
+// Propagates an inner node's new summary up the path above it. If the node underflowed, it rotates
+// or merges with a sibling, and after a merge the parent may underflow in turn. Returns a summary
+// of all keys.
 fn ascend_underflow<S: NodeStore>(
     store: &mut S,
     path: &mut VisitStack,
@@ -161,18 +158,18 @@ fn ascend_underflow<S: NodeStore>(
     summary: S::Argument,
     statistic: &mut Statistic,
 ) -> Result<S::Argument, AllocError>
-    requires { ClimbsUnderflowFrom S.K.cmp S.Argument.is_summary (S.slots store.old) path.old whole.now id summary }
-    ensures rises { SinksFrom S.K.cmp S.Argument.is_summary (S.slots store.old) (S.slots store.new) path.old whole.now id summary result }
-    ensures refused { OnErr result (S.slots store.new ≡ S.slots store.old) }
+    requires { UnderflowBelowFrom S.K.cmp S.Argument.is_summary (S.slots store.old) path.old whole.now id summary }
+    ensures rises { PropagatesUnderflowFrom S.K.cmp S.Argument.is_summary (S.slots store.old) (S.slots store.new) path.old whole.now id summary result }
+    ensures unchanged { OnErr result (S.slots store.new ≡ S.slots store.old) }
     ensures infallible { S.Argument.needs_no_memory → IsOk result }
 {
     if store.get_inner(id).len() >= INNER_MINIMUM {
         return ascend(store, path, whole, summary);
     }
-    let Some((parent, place, _)) = path.pop() else {
+    let Some((parent, index, _)) = path.pop() else {
         return Ok(summary);
     };
-    let (slot, giver) = sibling(store, parent, place, Level::Inner, INNER_MINIMUM);
+    let (slot, giver) = sibling(store, parent, index, Level::Inner, INNER_MINIMUM);
     let (left, right) = inners_at(store, parent, slot);
     match giver {
         Some(giver) => {
@@ -194,7 +191,7 @@ fn ascend_underflow<S: NodeStore>(
             match ascend_underflow(store, path, whole, parent, above, statistic) {
                 Ok(top) => {
                     store.release_inner(right);
-                    statistic.count(Level::Inner, merged(slot, place));
+                    statistic.count(Level::Inner, merged(slot, index));
                     Ok(top)
                 }
                 Err(refusal) => {
@@ -206,26 +203,30 @@ fn ascend_underflow<S: NodeStore>(
     }
 }
 
-/// Rebalances a leaf that underflowed, a child of the given node: it rotates a pair or merges with
-/// its sibling. `merging` says up to how many pairs of the sibling the two merge. Nodes on the path
-/// above that underflow by a merge are rebalanced in turn. `whole` is the summary that the whole
-/// tree had before. Returns a summary of all keys. It takes O(log n) steps, and allocates only a
-/// clone of a separator and the summaries. If it fails, the store is unchanged.
+/// Rebalances a leaf that underflowed, the child at index `index` of the node `id`: it rotates a
+/// pair or merges with its sibling.
+///
+/// `merging` determines up to how many pairs of the sibling the two merge. Nodes on the path above
+/// that underflow by a merge are rebalanced in turn. `whole` is the summary that the whole tree had
+/// before. Returns a summary of all keys.
+///
+/// O(log n) steps. It allocates only a clone of a separator and the summaries. If one of these
+/// fails, it returns `Err(AllocError)` and the store is unchanged.
 pub fn rebalance_leaf<S: NodeStore>(
     store: &mut S,
     path: &mut VisitStack,
     whole: &S::Argument,
     id: InnerNodeId,
-    place: usize,
+    index: usize,
     merging: Merging,
     statistic: &mut Statistic,
 ) -> Result<S::Argument, AllocError>
-    requires { LeafUnderflowFrom S.K.cmp S.Argument.is_summary (S.slots store.old) path.old whole.now id place }
-    ensures trims { TrimsFrom S.K.cmp S.Argument.is_summary (S.slots store.old) (S.slots store.new) path.old whole.now id place result }
-    ensures refused { OnErr result (S.slots store.new ≡ S.slots store.old) }
+    requires { LeafUnderflowFrom S.K.cmp S.Argument.is_summary (S.slots store.old) path.old whole.now id index }
+    ensures trims { PropagatesToRootFrom S.K.cmp S.Argument.is_summary (S.slots store.old) (S.slots store.new) path.old whole.now id index result }
+    ensures unchanged { OnErr result (S.slots store.new ≡ S.slots store.old) }
     ensures infallible { NeverFails S.Argument.needs_no_memory S.K.is_infallible result }
 {
-    let (slot, giver) = leaf_sibling(store, id, place, merging.most());
+    let (slot, giver) = leaf_sibling(store, id, index, merging.most());
     let (left, right) = leaves_at(store, id, slot);
     match giver {
         Some(giver) => {
@@ -249,7 +250,7 @@ pub fn rebalance_leaf<S: NodeStore>(
                 Ok(top) => {
                     store.release_leaf(right);
                     relink_next(store, left, next);
-                    statistic.count(Level::Leaf, merged(slot, place));
+                    statistic.count(Level::Leaf, merged(slot, index));
                     Ok(top)
                 }
                 Err(refusal) => {
@@ -261,38 +262,38 @@ pub fn rebalance_leaf<S: NodeStore>(
     }
 }
 
-// The inner node at a place of a node.
-fn inner_at<S: NodeStore>(store: &S, id: InnerNodeId, place: usize) -> InnerNodeId
+// Returns the inner node at a child index of a node.
+fn inner_at<S: NodeStore>(store: &S, id: InnerNodeId, index: usize) -> InnerNodeId
     requires children { InnersBelow (S.slots store.now) id }
-    requires place { HasPlaceBelow (S.slots store.now) id place }
-    ensures { HasChild (S.slots store.now) id place (kind.Inner result) }
+    requires index { HasIndexBelow (S.slots store.now) id index }
+    ensures { HasChild (S.slots store.now) id index (kind.Inner result) }
 {
-    store.get_inner(id).child_id(place).inner_id_unchecked()
+    store.get_inner(id).child_id(index).inner_id_unchecked()
 }
 
-// The two inner nodes on both sides of a separator.
+// Returns the two inner nodes on both sides of a separator.
 fn inners_at<S: NodeStore>(store: &S, id: InnerNodeId, slot: usize) -> (InnerNodeId, InnerNodeId)
     requires children { InnersBelow (S.slots store.now) id }
-    requires slot { HasPlaceBelow (S.slots store.now) id (slot + 1) }
+    requires slot { HasIndexBelow (S.slots store.now) id (slot + 1) }
     ensures left { HasChild (S.slots store.now) id slot (kind.Inner result.0) }
     ensures right { HasChild (S.slots store.now) id (slot + 1) (kind.Inner result.1) }
 {
     (inner_at(store, id, slot), inner_at(store, id, slot + 1))
 }
 
-// The leaf at a place of a node.
-fn leaf_at<S: NodeStore>(store: &S, id: InnerNodeId, place: usize) -> LeafNodeId
+// Returns the leaf at a child index of a node.
+fn leaf_at<S: NodeStore>(store: &S, id: InnerNodeId, index: usize) -> LeafNodeId
     requires children { LeavesBelow (S.slots store.now) id }
-    requires place { HasPlaceBelow (S.slots store.now) id place }
-    ensures { HasChild (S.slots store.now) id place (kind.Leaf result) }
+    requires index { HasIndexBelow (S.slots store.now) id index }
+    ensures { HasChild (S.slots store.now) id index (kind.Leaf result) }
 {
-    store.get_inner(id).child_id(place).leaf_id_unchecked()
+    store.get_inner(id).child_id(index).leaf_id_unchecked()
 }
 
-// The two leaves on both sides of a separator.
+// Returns the two leaves on both sides of a separator.
 fn leaves_at<S: NodeStore>(store: &S, id: InnerNodeId, slot: usize) -> (LeafNodeId, LeafNodeId)
     requires children { LeavesBelow (S.slots store.now) id }
-    requires slot { HasPlaceBelow (S.slots store.now) id (slot + 1) }
+    requires slot { HasIndexBelow (S.slots store.now) id (slot + 1) }
     ensures left { HasChild (S.slots store.now) id slot (kind.Leaf result.0) }
     ensures right { HasChild (S.slots store.now) id (slot + 1) (kind.Leaf result.1) }
 {

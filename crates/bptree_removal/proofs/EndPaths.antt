@@ -1,4 +1,5 @@
--- A way down to an end leads a search for any key of its leaf there, and a pair that is taken there is the first or the last.
+-- A descent to an end leads a search for any key of its leaf there, and a pair that is removed
+-- there is the first or the last.
 use Rattle.std.proofs.Common.{◌≡◌, ℕ, ◌+◌, ◌-◌, ◌<◌, ◌^◌, List, [], ◌∷◌, ◌++◌, length, refl, sym, subst, ◌∙◌, arith, None, Some, slice_get}
 use Rattle.std.specs.Prelude.{Bool, true, false, cond}
 use Rattle.std.specs.declared.cmp.Ordering.{Ordering}
@@ -14,25 +15,25 @@ use Rattle.bptree_nodes.specs.Inner.{Inner}
 use Rattle.bptree_nodes.specs.Leaf.{Leaf}
 use Rattle.bptree_nodes.specs.LeafResults.{HasEqualAt}
 use Rattle.bptree_nodes.specs.Slot.{Slot, Slots, Free, Held, Present}
-use Rattle.bptree_shape.specs.Leaves.{StandsIn, pairs_of}
-use Rattle.bptree_shape.specs.Shape.{leaf_pairs, pairs_at, root_least, IsWellShaped}
-use Rattle.bptree_shape.proofs.ListReads.{read_below, read_some}
-use Rattle.bptree_shape.proofs.Walk.{tree_ascends}
-use Rattle.bptree_descents.specs.ByArgument.{IsSubtree, GoesOn}
-use Rattle.bptree_ascent.proofs.LeafClimb.{leaf_fits}
-use Rattle.bptree_descents.proofs.Beside.{equal_at}
-use Rattle.bptree_descents.proofs.Selected.{goes_on, place_read}
+use Rattle.bptree_invariant.specs.Leaves.{IsLeafOf, pairs_of}
+use Rattle.bptree_invariant.specs.Shape.{leaf_pairs, pairs_at, root_least, IsWellShaped}
+use Rattle.bptree_invariant.proofs.ListReads.{read_below, read_some}
+use Rattle.bptree_invariant.proofs.Walk.{tree_ascends}
+use Rattle.bptree_search.specs.ByArgument.{IsSubtree, GoesOn}
+use Rattle.bptree_propagation.proofs.LeafClimb.{leaf_fits}
+use Rattle.bptree_search.proofs.Beside.{equal_at}
+use Rattle.bptree_search.proofs.Selected.{goes_on, index_read}
 use Rattle.bptree_removal.proofs.Deleted.{alike, deleted_by}
-use Rattle.bptree_removal.specs.Removal.{IsThere, Leaves, IsFound, IsEntryAt, IsTakenFrom, IsTakenAt, IsEntryTaken, LeadsOn, LeftAt}
+use Rattle.bptree_removal.specs.Removal.{IsThere, LeavesTree, IsFound, IsEntryAt, IsTakenFrom, IsTakenAt, IsEntryTaken, LeadsOn, LeftAt}
 
 module _ {K V A : Type 0} {cmp : K → K → Ordering} (total : IsTotalOrder cmp) (is_summary : A → List K → Type 0) (slots : Slots (Inner K A) (Leaf K V)) where
-  -- with the entry for the child, a search goes on from the node
+  -- if a search goes on from a child to a leaf, it goes on from the node above the child
   pub leads_on : (h : ℕ) (id : InnerNodeId) (node : Inner K A) → IsSubtree cmp is_summary slots h (kind.Inner id) → slots.inner id.0 ≡ Present node → (i : ℕ) (child : NodeId) → slice_get node.children i ≡ Some child
-      → (path longer : List (InnerNodeId × ℕ × NodeId)) (leaf : LeafNodeId) → StandsIn slots (h - 1) child leaf → LeadsOn cmp slots (h - 1) child (path ++ (id, i, child) ∷ []) longer leaf → LeadsOn cmp slots h (kind.Inner id) path longer leaf
-  leads_on h id node s e i child read path longer leaf stands on slot =
-      λ pair there. goes_on total is_summary slots (λ (query : Unit {0}) keys place. Unit {0}) (tt {0}) h id node s e i child read path longer (Some (record { leaf = leaf; slot = slot })) (stands, read_below (leaf_pairs (slots.leaf leaf.0)) slot pair there, tt {0}) (on slot) pair there
+      → (path longer : List (InnerNodeId × ℕ × NodeId)) (leaf : LeafNodeId) → IsLeafOf slots (h - 1) child leaf → LeadsOn cmp slots (h - 1) child (path ++ (id, i, child) ∷ []) longer leaf → LeadsOn cmp slots h (kind.Inner id) path longer leaf
+  leads_on h id node s e i child read path longer leaf stored on slot =
+      λ pair there. goes_on total is_summary slots (λ (query : Unit {0}) keys index. Unit {0}) (tt {0}) h id node s e i child read path longer (Some (record { leaf = leaf; slot = slot })) (stored, read_below (leaf_pairs (slots.leaf leaf.0)) slot pair there, tt {0}) (on slot) pair there
 
--- the key that was found is there
+-- a key that was found in the tree of a root is at its slot
 abbrev pub there_of : {K V A : Type 0} {cmp : K → K → Ordering} {is_summary : A → List K → Type 0} {slots : Slots (Inner K A) (Leaf K V)} {height : ℕ} {root : NodeId} {path : List (InnerNodeId × ℕ × NodeId)} {leaf : LeafNodeId} {slot : ℕ} {k : K} → IsFound cmp is_summary slots height root path leaf slot k → IsThere cmp is_summary slots path leaf slot k
 there_of {height = height} {root = root} f = record { top = height; root = root; shape = f.shape; few = f.few; way = f.way; found = f.found }
 
@@ -40,47 +41,47 @@ module _ {K V A : Type 0} {cmp : K → K → Ordering} (total : IsTotalOrder cmp
   sorted : IsAscending cmp (pairs_at old h root)
   sorted = tree_ascends total old (root_least h) h root None None shape.tree
 
-  -- the pair that was taken from a leaf is gone from its place
-  pub taken_at : (leaf : LeafNodeId) (slot : ℕ) (k : K) (pair : K × V) (top : NodeId) (top_height : ℕ) (a : A) (place : ℕ) → IsTakenFrom cmp is_summary old new h root leaf slot k pair top top_height a → cmp pair.0 k ≡ Equal → slice_get (pairs_at old h root) place ≡ Some pair → IsTakenAt cmp is_summary old new h root place pair top top_height a
-  taken_at leaf slot k pair top top_height a place taken equal was = record {
+  -- the pair that was removed from a leaf was removed at its index
+  pub taken_at : (leaf : LeafNodeId) (slot : ℕ) (k : K) (pair : K × V) (top : NodeId) (top_height : ℕ) (a : A) (index : ℕ) → IsTakenFrom cmp is_summary old new h root leaf slot k pair top top_height a → cmp pair.0 k ≡ Equal → slice_get (pairs_at old h root) index ≡ Some pair → IsTakenAt cmp is_summary old new h root index pair top top_height a
+  taken_at leaf slot k pair top top_height a index taken equal was = record {
     was = was;
     shape = taken.shape;
-    pairs = taken.pairs ∙ sym (deleted_by total (pairs_at old h root) place pair k sorted was equal);
-    told = taken.told;
+    pairs = taken.pairs ∙ sym (deleted_by total (pairs_at old h root) index pair k sorted was equal);
+    reported = taken.reported;
   }
 
--- a pair left its leaf, and then the root gave way
+-- a pair was removed from its leaf, and then the root was replaced by its only child
 pub taken_from : {K V A : Type 0} {cmp : K → K → Ordering} (is_summary : A → List K → Type 0) (old mid new : Slots (Inner K A) (Leaf K V)) (h : ℕ) (root : NodeId) (leaf : LeafNodeId) (slot : ℕ) (k : K) (pair : K × V) (top : NodeId) (top_height : ℕ) (a : A)
-    → Leaves cmp is_summary old mid h root leaf slot k pair a → IsWellShaped cmp is_summary new top_height top → pairs_at new top_height top ≡ pairs_at mid h root → IsTakenFrom cmp is_summary old new h root leaf slot k pair top top_height a
+    → LeavesTree cmp is_summary old mid h root leaf slot k pair a → IsWellShaped cmp is_summary new top_height top → pairs_at new top_height top ≡ pairs_at mid h root → IsTakenFrom cmp is_summary old new h root leaf slot k pair top top_height a
 taken_from is_summary old mid new h root leaf slot k pair top top_height a gone shape pairs = record {
   pair_was = gone.pair_was;
   shape = shape;
   pairs = pairs ∙ gone.pairs;
-  told = subst (λ l. is_summary a (keys_of l)) (sym pairs) gone.told;
+  reported = subst (λ l. is_summary a (keys_of l)) (sym pairs) gone.reported;
 }
 
--- with a key that no other leaf can hold
+-- a pair was removed by a key that no other leaf can hold
 pub entry_taken : {K V A : Type 0} {cmp : K → K → Ordering} (total : IsTotalOrder cmp) (is_summary : A → List K → Type 0) (old new : Slots (Inner K A) (Leaf K V)) (h : ℕ) (root : NodeId) (path : List (InnerNodeId × ℕ × NodeId)) (leaf : LeafNodeId) (slot : ℕ) (k : K) (pair : K × V) (top : NodeId) (top_height : ℕ) (a : A)
     → IsEntryAt cmp is_summary old h root path leaf slot k → IsTakenFrom cmp is_summary old new h root leaf slot k pair top top_height a → IsEntryTaken cmp is_summary old new h root k pair top top_height a
 entry_taken {cmp = cmp} total is_summary old new h root path leaf slot k pair top top_height a at taken =
-    let place = length (pairs_of old at.1.stands.before) + slot in
+    let index = length (pairs_of old at.1.stored.before) + slot in
     let equal : cmp pair.0 k ≡ Equal = rw taken.pair_was at at.0.found in (
-      place,
+      index,
       equal,
-      taken_at total is_summary old new h root at.0.shape leaf slot k pair top top_height a place taken equal (place_read old h root leaf at.1.stands slot pair taken.pair_was),
+      taken_at total is_summary old new h root at.0.shape leaf slot k pair top top_height a index taken equal (index_read old h root leaf at.1.stored slot pair taken.pair_was),
     )
 
--- a length that a number of the machine tells fits
+-- a list whose length a machine number counts has a length that fits
 pub few_of : {X : Type 0} (n : ℕ) (l : List X) → n ≡ length l → n < 2 ^ 64 → length l < 2 ^ 64
 few_of n l is fits = omega (arith, is, fits)
 
--- the leaf that has a pair at a slot
+-- a leaf that has a pair at a slot is present
 node_of : {K V : Type 0} (s : Slot (Leaf K V)) (i : ℕ) → i < length (leaf_pairs s) → (node : Leaf K V) × (s ≡ Present node)
 node_of Free i within = absurd (omega arith)
 node_of Held i within = absurd (omega arith)
 node_of (Present node) i within = (node, refl)
 
--- a place within a list, and the ends of an empty one
+-- an index within a list reads a member, and an empty list has no member at its ends
 pub none_here : {X : Type 0} (xs : List X) (i : ℕ) → length xs ≡ 0 → slice_get xs i ≡ None
 none_here [] i none = refl
 none_here (x ∷ xs) i none = absurd (omega arith)
@@ -98,7 +99,7 @@ module _ {K V A : Type 0} {cmp : K → K → Ordering} (total : IsTotalOrder cmp
   abbrev pub pair_there : (pair : K × V) × (slice_get (leaf_pairs (old.leaf leaf.0)) slot ≡ Some pair)
   pair_there = read_some (leaf_pairs (old.leaf leaf.0)) slot within
 
-  -- the key at a slot of the leaf is found by the way to it
+  -- the key at a slot of the leaf is found by the path to the leaf
   abbrev pub found_there : IsFound cmp is_summary old h root longer leaf slot pair_there.0.0
   found_there = record {
     shape = shape;
@@ -107,7 +108,7 @@ module _ {K V A : Type 0} {cmp : K → K → Ordering} (total : IsTotalOrder cmp
     found = rw pair_there.1 (alike total pair_there.0.0);
   }
 
-  -- no other leaf can hold it
+  -- no other leaf can hold the key
   pub entry_there : IsEntryAt cmp is_summary old h root longer leaf slot pair_there.0.0
   entry_there =
       let node = node_of (old.leaf leaf.0) slot within in
@@ -115,9 +116,9 @@ module _ {K V A : Type 0} {cmp : K → K → Ordering} (total : IsTotalOrder cmp
       let fits = leaf_fits is_summary old longer leaf pair_there.0.0 h root shape found_there.way node.0 node.1 in
       (found_there, (equal_at total is_summary old h root shape pair_there.0.0 leaf node.0 slot node.1 equal fits).for_key)
 
-  -- and its pair leaves from its place
-  pub left_there : (pair : K × V) (new : List (K × V)) (place : ℕ) → slice_get (leaf_pairs (old.leaf leaf.0)) slot ≡ slice_get (pairs_at old h root) place → slice_get (leaf_pairs (old.leaf leaf.0)) slot ≡ Some pair → cmp pair.0 pair_there.0.0 ≡ Equal → new ≡ del cmp (pairs_at old h root) pair_there.0.0
-      → LeftAt (pairs_at old h root) new place pair
-  left_there pair new place at was equal is =
+  -- the pair is removed at its index
+  pub left_there : (pair : K × V) (new : List (K × V)) (index : ℕ) → slice_get (leaf_pairs (old.leaf leaf.0)) slot ≡ slice_get (pairs_at old h root) index → slice_get (leaf_pairs (old.leaf leaf.0)) slot ≡ Some pair → cmp pair.0 pair_there.0.0 ≡ Equal → new ≡ del cmp (pairs_at old h root) pair_there.0.0
+      → LeftAt (pairs_at old h root) new index pair
+  left_there pair new index at was equal is =
       let all = tree_ascends total old (root_least h) h root None None shape.tree in
-      (sym at ∙ was, is ∙ sym (deleted_by total (pairs_at old h root) place pair pair_there.0.0 all (sym at ∙ was) equal))
+      (sym at ∙ was, is ∙ sym (deleted_by total (pairs_at old h root) index pair pair_there.0.0 all (sym at ∙ was) equal))

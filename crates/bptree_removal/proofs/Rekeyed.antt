@@ -7,14 +7,14 @@ use Rattle.std.specs.List.{AllByRecursion, insert, remove}
 use Rattle.std.specs.Map.{keys_of}
 use Rattle.std.specs.Ordering.{is_eq}
 use Rattle.bptree_keys.specs.Contents.{IsAscending, del, put}
-use Rattle.bptree_keys.specs.Places.{AllAnswer, IsHit}
+use Rattle.bptree_keys.specs.Indexes.{AllCompare, IsHit}
 use Rattle.bptree_keys.proofs.Found.{hit_at}
 use Rattle.bptree_keys.proofs.KeptKeys.{all_kept, all_put}
 use Rattle.bptree_keys.proofs.Laws.{put_ascending}
 use Rattle.bptree_keys.proofs.Parted.{del_hit, put_gap}
 use Rattle.bptree_keys.proofs.Updates.{del_ascending}
 use Rattle.bptree_nodes.specs.LeafResults.{HasEqualAt}
-use Rattle.bptree_shape.specs.Edit.{IsLocal}
+use Rattle.bptree_invariant.specs.Edit.{IsLocal}
 use Rattle.bptree_removal.specs.Replacement.{rekeyed, set_key_at}
 
 module _ {K V : Type 0} where
@@ -29,7 +29,7 @@ module _ {K V : Type 0} where
   set_long (p ∷ ps) zero k = refl
   set_long (p ∷ ps) (suc i) k = ap suc (set_long ps i k)
 
-  -- the key that was there comes back, and the other one is read there
+  -- the old key is stored again, and the new one is read at its slot
   pub set_back : (ps : List (K × V)) (i : ℕ) (k gone : K) → slice_get (keys_of ps) i ≡ Some gone → set_key_at (set_key_at ps i k) i gone ≡ ps
   set_back [] i k gone read = refl
   set_back (p ∷ ps) zero k gone read = let same : p.0 ≡ gone = cc in rw (← same) refl
@@ -40,7 +40,7 @@ module _ {K V : Type 0} where
   set_reads (p ∷ ps) zero k within = refl
   set_reads (p ∷ ps) (suc i) k within = set_reads ps i k (omega arith)
 
-  -- the key of a pair that is read, and the pair of a key that is
+  -- the key of a pair that is read, and the pair of a key that is read
   pub key_of_pair : (ps : List (K × V)) (i : ℕ) (pair : K × V) → slice_get ps i ≡ Some pair → slice_get (keys_of ps) i ≡ Some pair.0
   key_of_pair [] i pair read = absurd (let z : None ≡ Some pair = read in cc)
   key_of_pair (p ∷ ps) zero pair read = let same : p ≡ pair = cc in rw same refl
@@ -57,7 +57,7 @@ module _ {K V : Type 0} where
 
 module _ {K V : Type 0} (cmp : K → K → Ordering) (k : K) where
   -- keys that do not equal k stay
-  rekeyed_other : (o : Ordering) (l : List (K × V)) → is_eq o ≡ false → AllAnswer cmp k o l → rekeyed cmp k l ≡ l
+  rekeyed_other : (o : Ordering) (l : List (K × V)) → is_eq o ≡ false → AllCompare cmp k o l → rekeyed cmp k l ≡ l
   rekeyed_other o [] other all = refl
   rekeyed_other o (p ∷ l) other all = rw (all.0, other, rekeyed_other o l other all.1) refl
 
@@ -79,7 +79,7 @@ module _ {K V : Type 0} (cmp : K → K → Ordering) (k : K) where
     rekeyed_hit : rekeyed cmp k l ≡ before ++ (k, pair.1) ∷ after
     rekeyed_hit = rw (hit.parts, rekeyed_append before (pair ∷ after), rekeyed_other Less before refl hit.smaller, hit.equal, rekeyed_other Greater after refl hit.greater) refl
 
-    -- the pair leaves, and one with k is put
+    -- replacing the key is removing the pair and putting one with k
     pub rekeyed_put : rekeyed cmp k l ≡ put cmp (del cmp l k) k pair.1
     rekeyed_put =
         rekeyed_hit

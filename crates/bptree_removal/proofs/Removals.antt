@@ -1,4 +1,4 @@
--- A pair leaves a leaf, and stands there again.
+-- A pair is removed from a leaf, and is stored there again.
 use Rattle.std.proofs.Common.{◌≡◌, ℕ, ◌<◌, length, arith, true, is_some, zero, suc, List, [], ◌∷◌, inl, inr, refl, sym, ap, ◌∙◌, Some, slice_get}
 use Rattle.std.specs.Map.{values_of}
 use Rattle.std.specs.List.{insert, remove}
@@ -8,18 +8,18 @@ use Rattle.std.specs.Cmp.{IsTotalOrder}
 use Rattle.bptree_keys.specs.Contents.{has}
 use Rattle.bptree_keys.specs.declared.node_id.NodeId.{NodeId}
 use Rattle.bptree_keys.proofs.Equal.{has_where_value}
-use Rattle.bptree_nodes.proofs.LeafContents.{value_at_place}
+use Rattle.bptree_nodes.proofs.LeafContents.{value_at_index}
 use Rattle.bptree_nodes.specs.LeafResults.{HasEqualAt}
-use Rattle.bptree_shape.specs.Leaves.{IsLeafFor}
-use Rattle.bptree_shape.specs.Shape.{pairs_at, IsWellShaped}
-use Rattle.bptree_shape.proofs.LeafFor.{node_ascends, value_there}
+use Rattle.bptree_invariant.specs.Leaves.{IsLeafFor}
+use Rattle.bptree_invariant.specs.Shape.{pairs_at, IsWellShaped}
+use Rattle.bptree_invariant.proofs.LeafFor.{node_ascends, value_there}
 use Rattle.bptree_nodes.specs.Inner.{Inner}
 use Rattle.bptree_nodes.specs.Leaf.{Leaf}
 use Rattle.bptree_nodes.specs.Slot.{Slot, Slots, Present, UpdatesLeaf}
 use Rattle.bptree_keys.specs.declared.node_id.LeafNodeId.{LeafNodeId}
 use Rattle.bptree_rebalancing.proofs.Transfers.{insert_removed}
 use Rattle.bptree_rebalancing.proofs.Triples.{slots_same}
-use Rattle.bptree_ascent.proofs.Undone.{same_node}
+use Rattle.bptree_propagation.proofs.Undone.{same_node}
 
 pub leaf_again : {K V A : Type 0} (was now new : Slots (Inner K A) (Leaf K V)) (id : LeafNodeId) (slot : ℕ) (node from back : Leaf K V) (pair : K × V) → was.leaf id.0 ≡ Present node → slice_get node.pairs slot ≡ Some pair
     → UpdatesLeaf was now id.0 (Present (record node { pairs = remove node.pairs slot })) → now.leaf id.0 ≡ Present from → back ≡ record from { pairs = insert from.pairs slot pair } → UpdatesLeaf now new id.0 (Present back) → new ≡ was
@@ -45,4 +45,4 @@ pub found_there : {K V A : Type 0} {cmp : K → K → Ordering} (total : IsTotal
 found_there {cmp = cmp} total is_summary old h root k leaf node shape for' here i found below =
     let v = read_value node.pairs i below in
     sym (has_where_value cmp (pairs_at old h root) k)
-    ∙ ap is_some (value_there total is_summary old h root k leaf node shape for' here ∙ (sym (value_at_place cmp total node.pairs (node_ascends total is_summary old h root k leaf node shape for' here) k i found) ∙ v.1))
+    ∙ ap is_some (value_there total is_summary old h root k leaf node shape for' here ∙ (sym (value_at_index cmp total node.pairs (node_ascends total is_summary old h root k leaf node shape for' here) k i found) ∙ v.1))

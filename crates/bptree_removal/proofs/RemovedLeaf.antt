@@ -1,4 +1,4 @@
--- A pair leaves a leaf.
+-- A pair is removed from a leaf.
 use Rattle.std.proofs.Common.{◌≡◌, ℕ, ◌≤◌, List, length, subst, arith}
 use Rattle.std.specs.declared.cmp.Ordering.{Ordering}
 use Rattle.std.specs.Cmp.{IsTotalOrder}
@@ -11,14 +11,14 @@ use Rattle.bptree_nodes.specs.Leaf.{Leaf}
 use Rattle.bptree_nodes.specs.Slot.{Slot, Slots, Present, UpdatesLeaf}
 use Rattle.bptree_keys.specs.declared.node_id.LeafNodeId.{LeafNodeId}
 use Rattle.bptree_keys.specs.declared.node_id.NodeId.TheVariants as kind
-use Rattle.bptree_shape.specs.Edit.{IsLocal, Stays, Edits}
-use Rattle.bptree_shape.specs.Order.{Within}
-use Rattle.bptree_shape.specs.Outcome.{Done}
-use Rattle.bptree_shape.specs.Shape.{leaf_pairs}
+use Rattle.bptree_invariant.specs.Edit.{IsLocal, Stays, Edits}
+use Rattle.bptree_invariant.specs.Order.{Within}
+use Rattle.bptree_invariant.specs.Outcome.{Done}
+use Rattle.bptree_invariant.specs.Shape.{leaf_pairs}
 use Rattle.bptree_keys.proofs.KeptKeys.{all_kept}
-use Rattle.bptree_ascent.proofs.LeafEdit.{leaf_changed}
+use Rattle.bptree_propagation.proofs.LeafEdit.{leaf_changed}
 
--- a pair that is taken out looks no further than between the smaller and the greater keys
+-- removing a pair is a local edit: it leaves the pairs of smaller and of greater keys as they are
 pub del_is_local : {K V : Type 0} (cmp : K → K → Ordering) (k : K) → IsLocal {V = V} cmp k (λ l. del cmp l k)
 del_is_local cmp k = record { around = λ before l after smaller greater. del_around cmp k before l after smaller greater }
 

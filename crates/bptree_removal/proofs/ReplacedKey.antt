@@ -15,21 +15,21 @@ use Rattle.bptree_nodes.specs.Inner.{Inner}
 use Rattle.bptree_nodes.specs.Leaf.{Leaf}
 use Rattle.bptree_nodes.specs.LeafResults.{HasEqualAt}
 use Rattle.bptree_nodes.specs.Slot.{Slot, Slots, Present, IsPresent, UpdatesLeaf}
-use Rattle.bptree_shape.specs.Edit.{Stays, Edits}
-use Rattle.bptree_shape.specs.Leaves.{pairs_of}
-use Rattle.bptree_shape.specs.Order.{Within}
-use Rattle.bptree_shape.specs.Outcome.{Done}
-use Rattle.bptree_shape.specs.Shape.{leaf_pairs, pairs_at, root_least}
-use Rattle.bptree_shape.proofs.ListReads.{read_some}
-use Rattle.bptree_shape.proofs.Walk.{tree_ascends}
-use Rattle.bptree_ascent.specs.Climb.{Climb, Climbs, Risen, StaysFew}
-use Rattle.bptree_ascent.specs.LeafChange.{SumsUpLeaf}
-use Rattle.bptree_ascent.proofs.Climbing.{least_most, none_are_held}
-use Rattle.bptree_ascent.proofs.LeafClimb.{none_held, leaf_ascends, leaf_fits, climb_from}
-use Rattle.bptree_ascent.proofs.LeafEdit.{leaf_changed}
-use Rattle.bptree_ascent.proofs.Rooted.{whole_done}
-use Rattle.bptree_ascent.proofs.SlotFacts.{node_of}
-use Rattle.bptree_descents.proofs.Selected.{place_read}
+use Rattle.bptree_invariant.specs.Edit.{Stays, Edits}
+use Rattle.bptree_invariant.specs.Leaves.{pairs_of}
+use Rattle.bptree_invariant.specs.Order.{Within}
+use Rattle.bptree_invariant.specs.Outcome.{Done}
+use Rattle.bptree_invariant.specs.Shape.{leaf_pairs, pairs_at, root_least}
+use Rattle.bptree_invariant.proofs.ListReads.{read_some}
+use Rattle.bptree_invariant.proofs.Walk.{tree_ascends}
+use Rattle.bptree_propagation.specs.Climb.{Climb, EditBelow, Propagated, StaysFew}
+use Rattle.bptree_propagation.specs.LeafChange.{SumsUpLeaf}
+use Rattle.bptree_propagation.proofs.Climbing.{least_most, none_are_held}
+use Rattle.bptree_propagation.proofs.LeafClimb.{none_held, leaf_ascends, leaf_fits, climb_from}
+use Rattle.bptree_propagation.proofs.LeafEdit.{leaf_changed}
+use Rattle.bptree_propagation.proofs.Rooted.{whole_done}
+use Rattle.bptree_propagation.proofs.SlotFacts.{node_of}
+use Rattle.bptree_search.proofs.Selected.{index_read}
 use Rattle.bptree_rebalancing.proofs.Triples.{slots_same}
 use Rattle.bptree_removal.specs.Removal.{IsThere, IsEntryAt}
 use Rattle.bptree_removal.specs.Replacement.{rekeyed, set_key_at, HasKeyAt, IsRekeyed, RekeysPairs, SetsKey}
@@ -52,14 +52,14 @@ module _ {K V A : Type 0} (old mid : Slots (Inner K A) (Leaf K V)) (at : Positio
       let was : at.slot < length node.0.pairs = subst (λ (s : Slot (Leaf K V)). at.slot < length (leaf_pairs s)) node.1 within in
       rw here.leaf.changed (omega (arith, was, set_long node.0.pairs at.slot key))
 
-  -- the key is read there
-  pub handed_back : at.slot < length (leaf_pairs (old.leaf at.leaf.0)) → (back : K) → HasKeyAt mid at back → back ≡ key
-  handed_back within back read =
+  -- the key at the position is the new one
+  pub returned : at.slot < length (leaf_pairs (old.leaf at.leaf.0)) → (back : K) → HasKeyAt mid at back → back ≡ key
+  returned within back read =
       let was : at.slot < length node.0.pairs = subst (λ (s : Slot (Leaf K V)). at.slot < length (leaf_pairs s)) node.1 within in
       let there : Some back ≡ Some key = sym (rw here.leaf.changed at read) ∙ set_reads node.0.pairs at.slot key was in
       cc
 
-  -- with the key that was there, the leaf is as before
+  -- with the old key again, the leaf is as before
   pub set_again : (new : Slots (Inner K A) (Leaf K V)) (gone : K) → HasKeyAt old at gone → SetsKey mid new at gone → new ≡ old
   set_again new gone was back =
       let put = back (record node.0 { pairs = set_key_at node.0.pairs at.slot key }) here.leaf.changed in
@@ -114,24 +114,25 @@ module _ {K V A : Type 0} {cmp : K → K → Ordering} (total : IsTotalOrder cmp
     abbrev pub climb : Climb cmp is_summary mid path Done
     climb = climb_from is_summary old path at.leaf key there.top there.root there.shape there.way (rekeyed cmp key) 16 few (rekeyed_is_local cmp key) edits updates.inner (none_held old mid at.leaf.0 _ updates there.shape.no_leaf_held)
 
-    pub told : (a : A) → SumsUpLeaf cmp is_summary (leaf_pairs (mid.leaf at.leaf.0)) a → is_summary a (keys_of (leaf_pairs (mid.leaf at.leaf.0)))
-    told a sums =
+    pub reported : (a : A) → SumsUpLeaf cmp is_summary (leaf_pairs (mid.leaf at.leaf.0)) a → is_summary a (keys_of (leaf_pairs (mid.leaf at.leaf.0)))
+    reported a sums =
         sums (rw updates.leaf.changed (omega (arith, rekeyed_long cmp key leaf.0.pairs, slot_found cmp leaf.0.pairs key at.slot found)))
         (rw updates.leaf.changed (ascends total leaf.0.pairs sorted key at.slot pair.0 pair.1 found))
 
-    abbrev pub climbs : (a : A) → SumsUpLeaf cmp is_summary (leaf_pairs (mid.leaf at.leaf.0)) a → Climbs cmp is_summary mid path a
-    climbs a sums = record { climb = climb; enough = least_most there.top path; told = told a sums }
+    abbrev pub climbs : (a : A) → SumsUpLeaf cmp is_summary (leaf_pairs (mid.leaf at.leaf.0)) a → EditBelow cmp is_summary mid path a
+    climbs a sums = record { climb = climb; enough = least_most there.top path; reported = reported a sums }
 
-    pub is_rekeyed : (a : A) (sums : SumsUpLeaf cmp is_summary (leaf_pairs (mid.leaf at.leaf.0)) a) (gone : K) → HasKeyAt old at gone → (new : Slots (Inner K A) (Leaf K V)) (top : A) → Risen (climbs a sums).climb new top
+    pub is_rekeyed : (a : A) (sums : SumsUpLeaf cmp is_summary (leaf_pairs (mid.leaf at.leaf.0)) a) (gone : K) → HasKeyAt old at gone → (new : Slots (Inner K A) (Leaf K V)) (top : A) → Propagated (climbs a sums).climb new top
         → IsRekeyed cmp is_summary old new there.top there.root at key gone top
     is_rekeyed a sums gone was new top r = record {
       key_was = was;
       shape = whole_done cmp is_summary (rekeyed cmp key) old new there.top there.root key at.leaf there.shape (none_are_held r.free (λ n. (refl, refl))) r.edits;
       pairs = r.edits.pairs;
-      told = r.told;
+      reported = r.reported;
     }
 
--- what that is of the list of all pairs, and of the number that counts them
+-- the replacement of a key, as a change of the list of all pairs, and of the length that counts
+-- them
 module _ {K V A : Type 0} {cmp : K → K → Ordering} (total : IsTotalOrder cmp) (is_summary : A → List K → Type 0) (old new : Slots (Inner K A) (Leaf K V)) (h : ℕ) (root : NodeId) (path : List (InnerNodeId × ℕ × NodeId)) (at : Position) (key gone : K) (a : A)
     (there : IsEntryAt cmp is_summary old h root path at.leaf at.slot key) (done : IsRekeyed cmp is_summary old new h root at key gone a) where
   pub as_many : (len : ℕ) → len ≡ length (pairs_at old h root) → len ≡ length (pairs_at new h root)
@@ -140,9 +141,9 @@ module _ {K V A : Type 0} {cmp : K → K → Ordering} (total : IsTotalOrder cmp
   pub replaces : RekeysPairs cmp key (pairs_at old h root) (pairs_at new h root) gone
   replaces =
       let value = pair_of_key (leaf_pairs (old.leaf at.leaf.0)) at.slot gone done.key_was in
-      let place = length (pairs_of old there.1.stands.before) + at.slot in
-      let read : slice_get (pairs_at old h root) place ≡ Some (gone, value.0) = place_read old h root at.leaf there.1.stands at.slot (gone, value.0) value.1 in
+      let index = length (pairs_of old there.1.stored.before) + at.slot in
+      let read : slice_get (pairs_at old h root) index ≡ Some (gone, value.0) = index_read old h root at.leaf there.1.stored at.slot (gone, value.0) value.1 in
       let equal : cmp gone key ≡ Equal = rw value.1 at there.0.found in
       let sorted : IsAscending cmp (pairs_at old h root) = tree_ascends total old (root_least h) h root None None there.0.shape.tree in
-      let found : HasEqualAt cmp (pairs_at old h root) key place = rw read equal in
-      (place, value.0, read, equal, done.pairs ∙ is_put total (pairs_at old h root) sorted key place (gone, value.0) read found)
+      let found : HasEqualAt cmp (pairs_at old h root) key index = rw read equal in
+      (index, value.0, read, equal, done.pairs ∙ is_put total (pairs_at old h root) sorted key index (gone, value.0) read found)

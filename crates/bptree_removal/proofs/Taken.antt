@@ -1,4 +1,4 @@
--- A pair is taken out of the leaf at the end of a path.
+-- A pair is removed from the leaf at the end of a path.
 use Rattle.std.proofs.Common.{◌≡◌, ℕ, ◌+◌, ◌≤◌, List, length, refl, sym, ap, subst, arith, Some, slice_get}
 use Rattle.std.specs.declared.cmp.Ordering.{Ordering}
 use Rattle.std.specs.Cmp.{IsTotalOrder}
@@ -16,22 +16,22 @@ use Rattle.bptree_keys.specs.declared.node_id.InnerNodeId.{InnerNodeId}
 use Rattle.bptree_keys.specs.declared.node_id.LeafNodeId.{LeafNodeId}
 use Rattle.bptree_keys.specs.declared.node_id.NodeId.{NodeId}
 use Rattle.bptree_keys.specs.declared.node_id.NodeId.TheVariants as kind
-use Rattle.bptree_ascent.specs.Climb.{Climb, Risen, StaysFew}
-use Rattle.bptree_shape.specs.Edit.{Stays, Edits}
-use Rattle.bptree_shape.specs.Outcome.{Done}
-use Rattle.bptree_shape.specs.Shape.{leaf_pairs, pairs_at}
-use Rattle.bptree_removal.specs.Removal.{IsThere, Leaves}
-use Rattle.bptree_ascent.proofs.Climbing.{none_are_held}
-use Rattle.bptree_ascent.proofs.LeafClimb.{none_held, leaf_stands, leaf_ascends, leaf_fits, climb_from}
+use Rattle.bptree_propagation.specs.Climb.{Climb, Propagated, StaysFew}
+use Rattle.bptree_invariant.specs.Edit.{Stays, Edits}
+use Rattle.bptree_invariant.specs.Outcome.{Done}
+use Rattle.bptree_invariant.specs.Shape.{leaf_pairs, pairs_at}
+use Rattle.bptree_removal.specs.Removal.{IsThere, LeavesTree}
+use Rattle.bptree_propagation.proofs.Climbing.{none_are_held}
+use Rattle.bptree_propagation.proofs.LeafClimb.{none_held, leaf_stored, leaf_ascends, leaf_fits, climb_from}
 use Rattle.bptree_rebalancing.proofs.Loose.{loose_of}
 use Rattle.bptree_removal.proofs.RemovedLeaf.{del_is_local, leaf_removed}
-use Rattle.bptree_ascent.proofs.Rooted.{whole_done}
-use Rattle.bptree_shape.proofs.ListReads.{read_below}
+use Rattle.bptree_propagation.proofs.Rooted.{whole_done}
+use Rattle.bptree_invariant.proofs.ListReads.{read_below}
 
 module _ {K V A : Type 0} {cmp : K → K → Ordering} (total : IsTotalOrder cmp) (is_summary : A → List K → Type 0) (old : Slots (Inner K A) (Leaf K V)) (path : List (InnerNodeId × ℕ × NodeId)) (leaf : LeafNodeId) (slot : ℕ) (k : K)
     (there : IsThere cmp is_summary old path leaf slot k) where
   pub leaf_there : IsPresent (old.leaf leaf.0)
-  leaf_there = leaf_stands is_summary old path leaf k there.top there.root there.shape there.way
+  leaf_there = leaf_stored is_summary old path leaf k there.top there.root there.shape there.way
 
   module _ (node : Leaf K V) (here : old.leaf leaf.0 ≡ Present node) (pair : K × V) (read : slice_get node.pairs slot ≡ Some pair) where
     pub sorted_here : IsAscending cmp node.pairs
@@ -59,10 +59,10 @@ module _ {K V A : Type 0} {cmp : K → K → Ordering} (total : IsTotalOrder cmp
       abbrev pub climb_taken : Climb cmp is_summary mid path Done
       climb_taken = climb_from is_summary old path leaf k there.top there.root there.shape there.way (λ l. del cmp l k) kept few_taken (del_is_local cmp k) edits_taken takes.inner (none_held old mid leaf.0 _ takes there.shape.no_leaf_held)
 
-      pub leaves_taken : (new : Slots (Inner K A) (Leaf K V)) (top : A) → Risen climb_taken new top → Leaves cmp is_summary old new there.top there.root leaf slot k pair top
+      pub leaves_taken : (new : Slots (Inner K A) (Leaf K V)) (top : A) → Propagated climb_taken new top → LeavesTree cmp is_summary old new there.top there.root leaf slot k pair top
       leaves_taken new top r = record {
         pair_was = rw here read;
         loose = loose_of cmp is_summary new there.top there.root (whole_done cmp is_summary (λ l. del cmp l k) old new there.top there.root k leaf there.shape (none_are_held r.free (λ n. (refl, refl))) r.edits);
         pairs = r.edits.pairs;
-        told = r.told;
+        reported = r.reported;
       }

@@ -1,4 +1,4 @@
--- A key that comes in the place of one that equals it.
+-- Replacement of a key by one that equals it.
 use Rattle.std.specs.Prelude.{◌≡◌, ℕ, zero, suc, cond, List, [], ◌∷◌, Some, Result, IfOk, slice_get}
 use Rattle.std.specs.declared.cmp.Ordering.{Ordering}
 use Rattle.std.specs.declared.cmp.Ordering.TheVariants.{Equal}
@@ -11,7 +11,7 @@ use Rattle.bptree_nodes.specs.Slot.{Slots, Present, UpdatesLeaf}
 use Rattle.bptree_keys.specs.declared.node_id.InnerNodeId.{InnerNodeId}
 use Rattle.bptree_keys.specs.declared.node_id.NodeId.{NodeId}
 use Rattle.bptree_keys.specs.declared.node_id.Position.{Position}
-use Rattle.bptree_shape.specs.Shape.{leaf_pairs, pairs_at, IsWellShaped}
+use Rattle.bptree_invariant.specs.Shape.{leaf_pairs, pairs_at, IsWellShaped}
 use Rattle.bptree_removal.specs.Removal.{IsThere}
 
 module _ {K V : Type 0} where
@@ -21,34 +21,35 @@ module _ {K V : Type 0} where
   set_key_at (p ∷ ps) zero k = (k, p.1) ∷ ps
   set_key_at (p ∷ ps) (suc i) k = p ∷ set_key_at ps i k
 
-  -- with k in the place of each key that equals it
+  -- the pairs with k instead of each key that equals it
   abbrev pub rekeyed : (K → K → Ordering) → K → List (K × V) → List (K × V)
   rekeyed cmp k [] = []
   rekeyed cmp k (p ∷ ps) = cond (is_eq (cmp p.0 k)) (k, p.1) p ∷ rekeyed cmp k ps
 
-  -- a pair of a key that equals k left, and k came with its value
+  -- a pair with a key that equals k was removed, and k was put with its value
   abbrev pub RekeysPairs : (K → K → Ordering) → K → List (K × V) → List (K × V) → K → Type 0
   RekeysPairs cmp k old new gone =
-      (place : ℕ) × (v : V) × (slice_get old place ≡ Some (gone, v)) × (cmp gone k ≡ Equal) × (new ≡ put cmp (del cmp old k) k v)
+      (index : ℕ) × (v : V) × (slice_get old index ≡ Some (gone, v)) × (cmp gone k ≡ Equal) × (new ≡ put cmp (del cmp old k) k v)
 
--- the leaf under a number has a key at a slot
+-- the leaf of a position has a key at its slot
 abbrev pub HasKeyAt : {K V A : Type 0} → Slots (Inner K A) (Leaf K V) → Position → K → Type 0
 HasKeyAt slots at key = slice_get (keys_of (leaf_pairs (slots.leaf at.leaf.0))) at.slot ≡ Some key
 
--- it takes another key there
+-- the leaf of a position takes another key at its slot
 abbrev pub SetsKey : {K V A : Type 0} → Slots (Inner K A) (Leaf K V) → Slots (Inner K A) (Leaf K V) → Position → K → Type 0
 SetsKey {K} {V} {A} old new at key =
     (was : Leaf K V) → old.leaf at.leaf.0 ≡ Present was → UpdatesLeaf old new at.leaf.0 (Present (record was { pairs = set_key_at was.pairs at.slot key }))
 
--- a key came in the place of one that equals it, in a whole tree
+-- a key was replaced by one that equals it, in a whole tree
 pub record IsRekeyed {K V A : Type 0} (cmp : K → K → Ordering) (is_summary : A → List K → Type 0) (old new : Slots (Inner K A) (Leaf K V)) (height : ℕ) (root : NodeId) (at : Position) (key gone : K) (a : A) : Type 0 where
   pub key_was : HasKeyAt old at gone
   pub shape : IsWellShaped cmp is_summary new height root
   pub pairs : pairs_at new height root ≡ rekeyed cmp key (pairs_at old height root)
-  pub told : is_summary a (keys_of (pairs_at new height root))
+  pub reported : is_summary a (keys_of (pairs_at new height root))
 
 module _ {K V A : Type 0} (cmp : K → K → Ordering) (is_summary : A → List K → Type 0) where
-  -- a key stands at a position at the end of a path, and a value is a summary of the keys of the whole tree
+  -- a key is stored at a position at the end of a path, and a value is a summary of the keys of the
+  -- whole tree
   abbrev pub HasKey : Slots (Inner K A) (Leaf K V) → List (InnerNodeId × ℕ × NodeId) → A → Position → K → Type 0
   HasKey slots path whole at key =
       (there : IsThere cmp is_summary slots path at.leaf at.slot key) × is_summary whole (keys_of (pairs_at slots there.top there.root))

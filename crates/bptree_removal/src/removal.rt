@@ -3,26 +3,26 @@ ghost use Rattle.std.specs.Prelude.{◌≡◌, false, ◌<◌, ◌≤◌, IfOk, 
 ghost use Rattle.std.specs.Option.{is_some};
 ghost use Rattle.bptree_keys.specs.Contents.{has};
 ghost use Rattle.bptree_keys.specs.Ends.{is_back};
-ghost use Rattle.bptree_ascent.specs.Failing.{NeverFails};
+ghost use Rattle.bptree_propagation.specs.Failing.{NeverFails};
 ghost use Rattle.bptree_nodes.specs.Slot.{IsPresent};
-ghost use Rattle.bptree_ascent.specs.LeafChange.{SumsUpLeafAt};
-ghost use Rattle.bptree_shape.specs.NodeTree.{IsUntouched, IsWhole};
-ghost use Rattle.bptree_shape.specs.Shape.{leaf_pairs, IsWellShaped};
+ghost use Rattle.bptree_propagation.specs.LeafChange.{SumsUpLeafAt};
+ghost use Rattle.bptree_invariant.specs.NodeTree.{IsUntouched, IsWhole};
+ghost use Rattle.bptree_invariant.specs.Shape.{leaf_pairs, IsWellShaped};
 ghost use Rattle.bptree_rebalancing.specs.Trim.{IsLoose};
-ghost use Rattle.bptree_removal.specs.Removal.{IsEntryIn, NoPairIn, HasPair, HasSpare, KeepsPairs, PutsPairBack, RemovesEnd, RemovesKey, RemovesSelected, TakesAt, TakesOut, TakesPair};
+ghost use Rattle.bptree_removal.specs.Removal.{IsEntryIn, NoPairIn, HasPair, HasSpare, KeepsPairs, PutsPairBack, RemovesEnd, RemovesKeyFrom, RemovesSelected, TakesAt, TakesOut, TakesPair};
 
 use crate::ends::end_path;
 use bptree_arguments::argument::{Argument, SearchArgument};
-use bptree_ascent::ascent::ascend;
-use bptree_descents::by_argument::find_path_by_argument;
+use bptree_invariant::descent::{end_index, find_path};
+use bptree_invariant::nodes::Nodes;
 use bptree_keys::compares::{Compares, SearchHint};
 use bptree_keys::end::End;
 use bptree_keys::entry_ref::VisitStack;
 use bptree_keys::node_id::{LeafNodeId, NodeId, Position};
+use bptree_propagation::ascent::ascend;
 use bptree_rebalancing::statistics::Statistic;
 use bptree_rebalancing::underflow::{Merging, rebalance_leaf};
-use bptree_shape::descent::{end_index, find_path};
-use bptree_shape::nodes::Nodes;
+use bptree_search::by_argument::find_path_by_argument;
 use bptree_stores::node_stores::NodeStore;
 use std::alloc::AllocError;
 
@@ -36,7 +36,7 @@ fn take_pair<S: NodeStore>(store: &mut S, id: LeafNodeId, slot: usize) -> (S::K,
     store.get_mut_leaf(id).delete_at(slot)
 }
 
-// Undoes what `take_pair` did.
+// Undoes `take_pair`.
 fn put_pair<S: NodeStore>(store: &mut S, id: LeafNodeId, slot: usize, pair: (S::K, S::V))
     requires present { IsPresent ((S.slots store.old).leaf id.0) }
     requires slot { slot ≤ length (leaf_pairs ((S.slots store.old).leaf id.0)) }
@@ -47,7 +47,7 @@ fn put_pair<S: NodeStore>(store: &mut S, id: LeafNodeId, slot: usize, pair: (S::
     store.get_mut_leaf(id).insert_at(slot, key, value);
 }
 
-/// A summary of a leaf's keys. For a leaf without keys it is the default summary.
+/// Returns a summary of a leaf's keys, or the default summary if the leaf has no keys.
 pub(crate) fn sum_of<S: NodeStore>(store: &S, id: LeafNodeId) -> Result<S::Argument, AllocError>
     requires { IsPresent ((S.slots store.now).leaf id.0) }
     ensures some { IfOk result (SumsUpLeafAt S.K.cmp S.Argument.is_summary (S.slots store.now) id) }
@@ -61,7 +61,7 @@ pub(crate) fn sum_of<S: NodeStore>(store: &S, id: LeafNodeId) -> Result<S::Argum
     S::Argument::from_leaf(leaf.keys())
 }
 
-// Removes the pair at a slot from the leaf at the end of a path, and leaves the leaf in place.
+// Removes the pair at a slot from the leaf at the end of a path, without rebalancing the leaf.
 // Returns the pair and a summary of all keys.
 fn take_in_place<S: NodeStore>(
     store: &mut S,
@@ -73,7 +73,7 @@ fn take_in_place<S: NodeStore>(
     requires there { HasPair S.K.cmp S.Argument.is_summary (S.slots store.old) path.old whole.now leaf slot }
     requires spare { 0 < length path.old → HasSpare (S.slots store.old) leaf }
     ensures leaves { TakesOut S.K.cmp S.Argument.is_summary (S.slots store.old) (S.slots store.new) path.old whole.now leaf slot result }
-    ensures refused { OnErr result (S.slots store.new ≡ S.slots store.old) }
+    ensures unchanged { OnErr result (S.slots store.new ≡ S.slots store.old) }
     ensures infallible { S.Argument.needs_no_memory → IsOk result }
 {
     let pair = take_pair(store, leaf, slot);
@@ -91,7 +91,7 @@ fn take_in_place<S: NodeStore>(
 }
 
 // Removes the pair at a slot from the leaf at the end of a path. If the leaf underflows, `merging`
-// says when it merges with its sibling. Returns the pair and a summary of all keys.
+// determines when it merges with its sibling. Returns the pair and a summary of all keys.
 fn take_out<S: NodeStore>(
     store: &mut S,
     path: &mut VisitStack,
@@ -103,17 +103,17 @@ fn take_out<S: NodeStore>(
 ) -> Result<((S::K, S::V), S::Argument), AllocError>
     requires { HasPair S.K.cmp S.Argument.is_summary (S.slots store.old) path.old whole.now leaf slot }
     ensures leaves { TakesOut S.K.cmp S.Argument.is_summary (S.slots store.old) (S.slots store.new) path.old whole.now leaf slot result }
-    ensures refused { OnErr result (S.slots store.new ≡ S.slots store.old) }
+    ensures unchanged { OnErr result (S.slots store.new ≡ S.slots store.old) }
     ensures infallible { NeverFails S.Argument.needs_no_memory S.K.is_infallible result }
 {
-    if store.get_leaf(leaf).able_to_lend() {
+    if store.get_leaf(leaf).can_spare() {
         return take_in_place(store, path, whole, leaf, slot);
     }
-    let Some((id, place, _)) = path.pop() else {
+    let Some((id, index, _)) = path.pop() else {
         return take_in_place(store, path, whole, leaf, slot);
     };
     let pair = take_pair(store, leaf, slot);
-    match rebalance_leaf(store, path, whole, id, place, merging, statistic) {
+    match rebalance_leaf(store, path, whole, id, index, merging, statistic) {
         Ok(top) => Ok((pair, top)),
         Err(refusal) => {
             put_pair(store, leaf, slot, pair);
@@ -122,7 +122,8 @@ fn take_out<S: NodeStore>(
     }
 }
 
-// Replaces a root that has no key by its only child. It allocates nothing.
+// Replaces a root that has no key by its only child. Returns the root and its height. It allocates
+// nothing.
 fn shrink_root<S: NodeStore>(store: &mut S, root: NodeId, height: usize) -> (NodeId, usize)
     requires { IsLoose S.K.cmp S.Argument.is_summary (S.slots store.old) height root }
     ensures shape { IsWellShaped S.K.cmp S.Argument.is_summary (S.slots store.new) result.1 result.0 }
@@ -141,8 +142,10 @@ fn shrink_root<S: NodeStore>(store: &mut S, root: NodeId, height: usize) -> (Nod
     (child, height - 1)
 }
 
-/// Returns the position of the key of a tree that equals `k`, if there is one. Then `path` holds the
-/// inner nodes on the way there. What it held before is discarded. It allocates nothing.
+/// Returns the position of the key of a tree that equals `k`, if there is one.
+///
+/// `path` then holds the inner nodes on the way there; what it held before is discarded. O(log n)
+/// comparisons. It allocates nothing and cannot fail.
 pub fn find_entry<S: NodeStore>(
     tree: &Nodes<S>,
     path: &mut VisitStack,
@@ -154,8 +157,8 @@ pub fn find_entry<S: NodeStore>(
     tree.recall();
     path.clear();
     let leaf = find_path(&tree.store, tree.root, tree.height, k, path);
-    // A removal moves pairs behind the slot that the search finds, so the search begins with
-    // branches one level sooner than that of a look-up.
+    // The removal's memory moves depend on the slot, so the search branches one level earlier than
+    // that of a look-up.
     let hint = SearchHint::below(tree.height.saturating_add(1));
     let found = tree
         .store
@@ -168,7 +171,7 @@ pub fn find_entry<S: NodeStore>(
 }
 
 // Removes the pair at a position from a tree, as `take_entry` does. If its leaf underflows,
-// `merging` says when it merges with its sibling.
+// `merging` determines when it merges with its sibling.
 fn take_entry_by<S: NodeStore>(
     tree: &mut Nodes<S>,
     path: &mut VisitStack,
@@ -179,7 +182,7 @@ fn take_entry_by<S: NodeStore>(
     requires { (k : S.K) × IsEntryIn S.slots S.K.cmp S.Argument.is_summary tree.old path.old k at }
     ensures taken { TakesAt S.slots S.K.cmp S.Argument.is_summary tree.old tree.new path.old at result }
     ensures whole { IsWhole S.K.cmp S.Argument.is_summary S.slots tree.new }
-    ensures refused { OnErr result (IsUntouched S.slots tree.new tree.old) }
+    ensures unchanged { OnErr result (IsUntouched S.slots tree.new tree.old) }
     ensures infallible { NeverFails S.Argument.needs_no_memory S.K.is_infallible result }
 {
     let (pair, summary) = take_out(
@@ -199,10 +202,13 @@ fn take_entry_by<S: NodeStore>(
     Ok(pair)
 }
 
-/// Removes the pair at a position from a tree, and returns it. `find_entry` returns the position,
-/// and leaves in `path` the inner nodes on the way there. A leaf that underflows merges with its
-/// sibling only if neither sibling has more than 16 pairs. It takes O(log n) steps, and allocates
-/// only a clone of a separator and the summaries. If it fails, the tree is unchanged.
+/// Removes the pair at a position from a tree, and returns it.
+///
+/// `find_entry` returns the position, and leaves in `path` the inner nodes on the way there. A leaf
+/// that underflows merges with its sibling only if neither sibling has more than 16 pairs.
+///
+/// O(log n) steps. It allocates only a clone of a separator and the summaries. If one of these
+/// fails, it returns `Err(AllocError)` and the tree is unchanged.
 pub fn take_entry<S: NodeStore>(
     tree: &mut Nodes<S>,
     path: &mut VisitStack,
@@ -212,26 +218,30 @@ pub fn take_entry<S: NodeStore>(
     requires { (k : S.K) × IsEntryIn S.slots S.K.cmp S.Argument.is_summary tree.old path.old k at }
     ensures taken { TakesAt S.slots S.K.cmp S.Argument.is_summary tree.old tree.new path.old at result }
     ensures whole { IsWhole S.K.cmp S.Argument.is_summary S.slots tree.new }
-    ensures refused { OnErr result (IsUntouched S.slots tree.new tree.old) }
+    ensures unchanged { OnErr result (IsUntouched S.slots tree.new tree.old) }
     ensures infallible { NeverFails S.Argument.needs_no_memory S.K.is_infallible result }
 {
     take_entry_by(tree, path, at, Merging::Late, statistic)
 }
 
 /// Removes the pair whose key equals `k` from a tree, if there is one, and returns it with the key
-/// that was stored. If there is none, it allocates nothing. If it fails, the tree is unchanged.
-/// What `path` held before is discarded. The caller provides it, so that none is allocated.
+/// that was stored.
+///
+/// `path` is scratch space, reused to avoid an allocation; what it held before is discarded.
+///
+/// O(log n) steps. It allocates what `take_entry` does, and nothing if there is no such pair. If an
+/// allocation fails, it returns `Err(AllocError)` and the tree is unchanged.
 pub fn remove_entry<S: NodeStore>(
     tree: &mut Nodes<S>,
     path: &mut VisitStack,
     k: &S::K,
     statistic: &mut Statistic,
 ) -> Result<Option<(S::K, S::V)>, AllocError>
-    ensures removed { IfOk result (RemovesKey tree.old.contents tree.new.contents S.K.cmp k.now) }
+    ensures removed { IfOk result (RemovesKeyFrom tree.old.contents tree.new.contents S.K.cmp k.now) }
     ensures absent { has S.K.cmp tree.old.contents k.now ≡ false → result ≡ Ok None }
     ensures whole { IsWhole S.K.cmp S.Argument.is_summary S.slots tree.new }
     ensures untouched { has S.K.cmp tree.old.contents k.now ≡ false → IsUntouched S.slots tree.new tree.old }
-    ensures refused { OnErr result (IsUntouched S.slots tree.new tree.old) }
+    ensures unchanged { OnErr result (IsUntouched S.slots tree.new tree.old) }
     ensures infallible { NeverFails S.Argument.needs_no_memory S.K.is_infallible result }
 {
     tree.recall();
@@ -241,11 +251,14 @@ pub fn remove_entry<S: NodeStore>(
     }
 }
 
-/// Removes the pair at an end of a tree, if there is one, and returns it. No key is compared or
-/// cloned on the descent. A leaf that underflows merges with its sibling if that has at most 48
-/// pairs. So a loop over this call seldom rotates. It takes O(log n) steps, and allocates what
-/// `take_entry` does. If there is no pair, it allocates nothing. If it fails, the tree is
-/// unchanged. `path` is as for `remove_entry`.
+/// Removes the pair at an end of a tree, if there is one, and returns it.
+///
+/// The descent compares and clones no key. A leaf that underflows merges with its sibling if the
+/// sibling has at most 48 pairs, so a loop over this call seldom rotates. `path` is scratch space,
+/// as for `remove_entry`.
+///
+/// O(log n) steps. It allocates what `take_entry` does, and nothing if there is no pair. If an
+/// allocation fails, it returns `Err(AllocError)` and the tree is unchanged.
 pub fn remove_end<S: NodeStore>(
     tree: &mut Nodes<S>,
     path: &mut VisitStack,
@@ -256,7 +269,7 @@ pub fn remove_end<S: NodeStore>(
     ensures empty { tree.old.contents ≡ [] → result ≡ Ok None }
     ensures whole { IsWhole S.K.cmp S.Argument.is_summary S.slots tree.new }
     ensures untouched { tree.old.contents ≡ [] → IsUntouched S.slots tree.new tree.old }
-    ensures refused { OnErr result (IsUntouched S.slots tree.new tree.old) }
+    ensures unchanged { OnErr result (IsUntouched S.slots tree.new tree.old) }
     ensures infallible { NeverFails S.Argument.needs_no_memory S.K.is_infallible result }
 {
     path.clear();
@@ -270,8 +283,9 @@ pub fn remove_end<S: NodeStore>(
     Ok(Some(take_entry_by(tree, path, at, Merging::Early, statistic)?))
 }
 
-/// Removes a pair that the argument may find for the query from a tree, if it finds one. If it
-/// fails, the tree is unchanged. `path` is as for `remove_entry`.
+/// Removes from a tree a pair that the argument may find for the query, if it finds one, and
+/// returns it. `path` is scratch space, as for `remove_entry`. If an allocation fails, it returns
+/// `Err(AllocError)` and the tree is unchanged.
 pub fn remove_by_argument<S: NodeStore>(
     tree: &mut Nodes<S>,
     path: &mut VisitStack,
@@ -283,7 +297,7 @@ where
     ensures removed { IfOk result (RemovesSelected tree.old.contents tree.new.contents S.Argument.selects query) }
     ensures whole { IsWhole S.K.cmp S.Argument.is_summary S.slots tree.new }
     ensures untouched { result ≡ Ok None → IsUntouched S.slots tree.new tree.old }
-    ensures refused { OnErr result (IsUntouched S.slots tree.new tree.old) }
+    ensures unchanged { OnErr result (IsUntouched S.slots tree.new tree.old) }
     ensures infallible { NeverFails S.Argument.needs_no_memory S.K.is_infallible result }
 {
     tree.recall();

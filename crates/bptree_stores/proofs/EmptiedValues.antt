@@ -1,4 +1,4 @@
--- The machine values of an `Emptied`, and of a pair. Assumes `Logic`.
+-- The machine values of an `VacantBox`, and of a pair. Assumes `Logic`.
 use Rattle.std.proofs.Common.{◌≡◌, ℕ, List, [], ◌∷◌, ◌++◌, refl, subst}
 use lib.Dec.{T}
 use seplogic.Ra.Ura.{Ura}
@@ -20,23 +20,23 @@ use denote.Struct.Tuple.{Tuple, tuple_type}
 use Rattle.std.specs.Vacant.{vacant}
 use Rattle.std.proofs.alloc.Calls.{token, Fits, handle_tells}
 use Rattle.std.proofs.BoxSteps.Form.{Bx, R, P, τ, handle, word}
-use Rattle.bptree_stores.specs.contracts.emptied.Emptied as emptied
+use Rattle.bptree_stores.specs.contracts.vacant_box.VacantBox as vacant_box
 
 abbrev pub Fitting : Ty → Val → Type 0
 Fitting σ v = T (has_ty σ v) × WT v
 
 module _ (E : Bx) where
   abbrev pub owning : Owning
-  owning = emptied.the_type (R E) (P E) E.al.g
+  owning = vacant_box.the_type (R E) (P E) E.al.g
 
-  abbrev pub Emptied : RattleType
-  Emptied = emptied.the_row (R E) (P E) E.al.g
+  abbrev pub VacantBox : RattleType
+  VacantBox = vacant_box.the_row (R E) (P E) E.al.g
 
   module _ {M : Type 1} {𝓤 : Ura M} {𝓛 : Logic 𝓤} {K : Type 0} {Γ : List (Item 𝓤)} {G : Goal 𝓤 𝓛.H} where
-    pub emptied_out : K → (d : Emptied.Denot) (vs : List Val)
+    pub emptied_out : K → (d : VacantBox.Denot) (vs : List Val)
         → ((b o : ℕ) (h : Val) → d.at ≡ block_ptr b o → vs ≡ word E h b o ∷ [] → Fits E.al h
         → Seq K 𝓛 (‵ (froom (bare (τ E)) b o) ∷ ‵ (token E.al d.alloc (bare (τ E)) (block_ptr b o)) ∷ ‵ (handle E d.alloc h) ∷ Γ) G)
-        → Seq K 𝓛 (‵ (Emptied.own_val d vs) ∷ Γ) G
+        → Seq K 𝓛 (‵ (VacantBox.own_val d vs) ∷ Γ) G
     emptied_out t d vs k =
         fsplit t $ fpick t (λ vss. fsplit t $ feq_l t (λ ev. fsplit t $ feq_l t (λ ep. fsplit t $ handle_tells E.al t d.alloc vss.1.0 (λ h ea fits. move t (1 ∷ []) $ drop t $ move t (1 ∷ []) $
         in_a_block t d.at (vacant (token E.al d.alloc) (R E)) (fst∗ 𝓤 (never 𝓤) (sem 𝓛 (token E.al d.alloc (bare (τ E)) null_ptr))) (λ b o e. fsplit t $ k b o h e
@@ -44,7 +44,7 @@ module _ (E : Bx) where
         (subst (λ (ws : List Val). vs ≡ vstruct (of_list (ptr_val d.at ∷ (ws ++ []))) ∷ []) ea (subst (λ (ps : List Val). vs ≡ vstruct (of_list (ps ++ (vss.1.0 ++ []))) ∷ []) ep ev))) fits)))))
 
     pub emptied_in : K → {h : Val} (a : E.al.row.Denot) (b o : ℕ)
-        → Step K 𝓛 (‵ (Emptied.own_val (record { at = block_ptr b o; alloc = a }) (word E h b o ∷ [])) ∷ Γ) G (‵ (froom (bare (τ E)) b o) ∷ ‵ (token E.al a (bare (τ E)) (block_ptr b o)) ∷ ‵ (handle E a h) ∷ Γ) G
+        → Step K 𝓛 (‵ (VacantBox.own_val (record { at = block_ptr b o; alloc = a }) (word E h b o ∷ [])) ∷ Γ) G (‵ (froom (bare (τ E)) b o) ∷ ‵ (token E.al a (bare (τ E)) (block_ptr b o)) ∷ ‵ (handle E a h) ∷ Γ) G
     emptied_in t {h} a b o = step (λ s.
         fjoin t $ nothing t $ move t (2 ∷ 0 ∷ []) $ fjoin t $ feq_i t (List Val) (vptr b o ∷ []) (vptr b o ∷ []) refl $ fjoin t $ feq_i t (List Val) (word E h b o ∷ []) (word E h b o ∷ []) refl $ fjoin t $
         fpack t (Valss (RawPtr ∷ P E ∷ [])) (within (shape owning) (block_ptr b o, (a, tt)) (word E h b o ∷ [])) (vptr b o ∷ [], (h ∷ [], tt)) $ fjoin t $ s)

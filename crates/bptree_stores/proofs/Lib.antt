@@ -1,2 +1,2 @@
 pub mod EmptiedValues
-pub mod Places
+pub mod IdStates

@@ -1,5 +1,5 @@
 pub mod Clones
 pub mod Hint
-pub mod Place
-pub mod PlaceClones
+pub mod IdState
+pub mod IdStateClones
 pub mod StoreSlabs

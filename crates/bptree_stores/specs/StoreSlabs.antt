@@ -1,4 +1,4 @@
--- What a store in slabs means, and that store with a node changed.
+-- The states of the ids of a store over slabs, and the store with a node changed.
 use Rattle.std.specs.Prelude.{ℕ, refl}
 use Rattle.std.specs.Box.{with_value as with_boxed}
 use Rattle.std.specs.declared.alloc.Global.{Global}
@@ -7,19 +7,19 @@ use Rattle.slab.specs.Slab.{get, with_value}
 use Rattle.bptree_nodes.specs.Inner.{Inner}
 use Rattle.bptree_nodes.specs.Leaf.{Leaf}
 use Rattle.bptree_nodes.specs.Slot.{Slots, Present, IsPresent, UpdatesLeaf, UpdatesInner}
-use Rattle.bptree_stores.specs.Place.{slot_at, with_entry_node, Updates-with_node}
+use Rattle.bptree_stores.specs.IdState.{slot_at, with_entry_node, Updates-with_node}
 use Rattle.bptree_stores.specs.declared.node_store_vec.NodeStoreVec.{NodeStoreVec}
-use Rattle.bptree_stores.specs.declared.seat.Seat.{Seat}
+use Rattle.bptree_stores.specs.declared.inline_node.InlineNode.{InlineNode}
 
--- the node in a box, and in a seat
+-- the node in a box, and the node in a seat
 abbrev pub boxed : {N : Type 0} → Box N Global → N
 boxed box = box.value
 
-abbrev pub seated : {N : Type 0} → Seat N → N
-seated seat = seat.node
+abbrev pub seated : {N : Type 0} → InlineNode N → N
+seated inline_node = inline_node.node
 
-abbrev pub with_seated : {N : Type 0} → Seat N → N → Seat N
-with_seated seat new = record seat { node = new }
+abbrev pub with_seated : {N : Type 0} → InlineNode N → N → InlineNode N
+with_seated inline_node new = record inline_node { node = new }
 
 module _ {K V A : Type 0} where
   abbrev pub slots : NodeStoreVec K V A → Slots (Inner K A) (Leaf K V)

@@ -1,8 +1,8 @@
-//! The law of stores, which hold the nodes of a tree, and a store over slabs.
+//! The trait of stores, which contain the nodes of a tree, and a store over slabs.
 #![tactic(auto)]
 
-mod emptied;
+mod id_state;
+mod inline_node;
 pub mod node_store_vec;
 pub mod node_stores;
-mod place;
-mod seat;
+mod vacant_box;

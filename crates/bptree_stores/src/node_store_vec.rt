@@ -1,11 +1,11 @@
 //! A store over two slabs.
 ghost use Rattle.std.specs.Prelude.{◌↔◌, IsTrue, IfOk};
 ghost use Rattle.bptree_nodes.specs.Slot.{IsEmpty};
-ghost use Rattle.bptree_stores.specs.Place.{IsVacant};
+ghost use Rattle.bptree_stores.specs.IdState.{IsVacant};
 
+use crate::id_state::IdState;
+use crate::inline_node::InlineNode;
 use crate::node_stores::{CloneStore, NodeStore};
-use crate::place::Place;
-use crate::seat::Seat;
 use bptree_arguments::argument::Argument;
 use bptree_keys::compares::Compares;
 use bptree_keys::key::Key;
@@ -17,38 +17,36 @@ use std::alloc::{AllocError, Global};
 use std::cell::Cell;
 use std::mem;
 
-// Whether no number is present or held.
-fn is_vacant<H>(places: &Slab<Place<H>>) -> bool
-    ensures { IsTrue result ↔ IsVacant places.now }
+// Returns whether no id is present or reserved.
+fn is_vacant<H>(indexes: &Slab<IdState<H>>) -> bool
+    ensures { IsTrue result ↔ IsVacant indexes.now }
 {
-    places.is_empty()
+    indexes.is_empty()
 }
 
-/// Nodes under the numbers of two slabs: inner nodes in boxes, and leaves beside the emptied memory
-/// of theirs. A released number is given out again, the last released first; if none is left of
-/// these, the next number is the least one that was never given out. So each number is less than
-/// the most that were taken at a time, and a remembered number can stand for another leaf than it
-/// did.
+/// A store of nodes in two slabs: inner nodes in boxes, and leaves by value beside the empty memory
+/// of their boxes. Released ids are reused, the last released first. If no released id is left, the
+/// next id is the least one that was never used. So each id is less than the greatest number of ids
+/// in use at a time, and a cached id can be the id of another leaf than it was.
 ///
-/// A new number takes amortised constant time, moves no key and no value, and allocates nothing
-/// where a released one is left. A clone copies every node; `try_cache` compares the key with at
-/// most two others. Each other call takes constant time. A store that is dropped drops each node
-/// that is present.
+/// A new id takes amortized constant time and moves no key and no value. It allocates nothing if a
+/// released id is left. A clone copies every node. `try_cache` compares the key with at most two
+/// others. Each other call takes constant time. A drop of the store drops each node that is
+/// present.
 #[derive(Drop)]
 pub struct NodeStoreVec<K: Key, V, A: Argument<K> = ()> {
-    inner_nodes: Slab<Place<Box<InnerNode<K, A>>>>,
-    leaf_nodes: Slab<Place<Seat<LeafNode<K, V>>>>,
+    inner_nodes: Slab<IdState<Box<InnerNode<K, A>>>>,
+    leaf_nodes: Slab<IdState<InlineNode<LeafNode<K, V>>>>,
     alloc: Global,
     cached_leaf: Cell<usize>,
-    // The number that was given last to be remembered. It is remembered once it is given twice in
-    // turn.
+    // The id of the last call of `cache_leaf`. An id is cached when two successive calls have it.
     last_leaf: Cell<usize>,
 }
 
 impl<K: Key, V: Drop, A: Argument<K>> NodeStoreVec<K, V, A> {
     ghost use Rattle.bptree_stores.specs.StoreSlabs.{slots};
 
-    /// A store with no node and no number held. It allocates nothing now.
+    /// Creates a store with no node and no reserved id.
     ///
     /// O(1). It allocates nothing and cannot fail.
     pub fn new(alloc: Global) -> Self
@@ -57,7 +55,8 @@ impl<K: Key, V: Drop, A: Argument<K>> NodeStoreVec<K, V, A> {
         NodeStoreVec::empty(alloc)
     }
 
-    /// The same, with room for so many numbers of each kind before more memory is taken.
+    /// Creates a store with no node and no reserved id, with room for `capacity` ids of each kind
+    /// before the store allocates again.
     ///
     /// O(1), and at most two allocations. It fails only if one of these fails.
     pub fn with_capacity(alloc: Global, capacity: usize) -> Result<Self, AllocError>
@@ -116,21 +115,21 @@ impl<K: Key, V: Drop, A: Argument<K>> NodeStore for NodeStoreVec<K, V, A> {
     fn add_inner(&mut self, node: Box<InnerNode<K, A>>) -> Result<InnerNodeId, Box<InnerNode<K, A>>>
         ensures was_free { IfOk result (λ id. (slots self.old).inner id.0 ≡ Free) }
         ensures updates { IfOk result (AddsInner (slots self.old) (slots self.new) node.value) }
-        ensures refused { OnErr result (slots self.new ≡ slots self.old) }
-        ensures handed_back { IfErr result (λ back. back ≡ node) }
+        ensures unchanged { OnErr result (slots self.new ≡ slots self.old) }
+        ensures returned { IfErr result (λ back. back ≡ node) }
     {
         if self.inner_nodes.reserve(1).is_err() {
             return Err(node);
         }
-        Ok(InnerNodeId::from_usize(self.inner_nodes.insert_reserved(Place::Occupied(node))))
+        Ok(InnerNodeId::from_usize(self.inner_nodes.insert_reserved(IdState::Occupied(node))))
     }
 
     fn reserve_inner(&mut self) -> Result<InnerNodeId, AllocError> {
-        Ok(InnerNodeId::from_usize(self.inner_nodes.insert(Place::Reserved)?))
+        Ok(InnerNodeId::from_usize(self.inner_nodes.insert(IdState::Reserved)?))
     }
 
     fn reserve_leaf(&mut self) -> Result<LeafNodeId, AllocError> {
-        Ok(LeafNodeId::from_usize(self.leaf_nodes.insert(Place::Reserved)?))
+        Ok(LeafNodeId::from_usize(self.leaf_nodes.insert(IdState::Reserved)?))
     }
 
     fn get_inner(&self, id: InnerNodeId) -> &InnerNode<K, A> {
@@ -151,29 +150,29 @@ impl<K: Key, V: Drop, A: Argument<K>> NodeStore for NodeStoreVec<K, V, A> {
 
     fn try_get_inner(&self, id: InnerNodeId) -> Option<&InnerNode<K, A>> {
         match self.inner_nodes.get(id.as_usize()) {
-            Some(Place::Occupied(node)) => Some(node),
+            Some(IdState::Occupied(node)) => Some(node),
             _ => None,
         }
     }
 
     fn try_get_leaf(&self, id: LeafNodeId) -> Option<&LeafNode<K, V>> {
         match self.leaf_nodes.get(id.as_usize()) {
-            Some(Place::Occupied(seat)) => Some(&seat.node),
+            Some(IdState::Occupied(inline_node)) => Some(&inline_node.node),
             _ => None,
         }
     }
 
     fn take_inner(&mut self, id: InnerNodeId) -> Box<InnerNode<K, A>> {
-        match mem::replace(&mut self.inner_nodes[id.as_usize()], Place::Reserved) {
-            Place::Occupied(node) => node,
-            Place::Reserved => unreachable!(),
+        match mem::replace(&mut self.inner_nodes[id.as_usize()], IdState::Reserved) {
+            IdState::Occupied(node) => node,
+            IdState::Reserved => unreachable!(),
         }
     }
 
     fn take_leaf(&mut self, id: LeafNodeId) -> Box<LeafNode<K, V>> {
-        match mem::replace(&mut self.leaf_nodes[id.as_usize()], Place::Reserved) {
-            Place::Occupied(seat) => seat.into_box(),
-            Place::Reserved => unreachable!(),
+        match mem::replace(&mut self.leaf_nodes[id.as_usize()], IdState::Reserved) {
+            IdState::Occupied(inline_node) => inline_node.into_box(),
+            IdState::Reserved => unreachable!(),
         }
     }
 
@@ -181,14 +180,14 @@ impl<K: Key, V: Drop, A: Argument<K>> NodeStore for NodeStoreVec<K, V, A> {
         requires { (slots self.old).inner id.0 ≡ Held }
         ensures { UpdatesInner (slots self.old) (slots self.new) id.0 (Present node.value) }
     {
-        self.inner_nodes[id.as_usize()] = Place::Occupied(node);
+        self.inner_nodes[id.as_usize()] = IdState::Occupied(node);
     }
 
     fn assign_leaf(&mut self, id: LeafNodeId, leaf: Box<LeafNode<K, V>>)
         requires { (slots self.old).leaf id.0 ≡ Held }
         ensures { UpdatesLeaf (slots self.old) (slots self.new) id.0 (Present leaf.value) }
     {
-        self.leaf_nodes[id.as_usize()] = Place::Occupied(Seat::of(leaf));
+        self.leaf_nodes[id.as_usize()] = IdState::Occupied(InlineNode::of(leaf));
     }
 
     fn release_inner(&mut self, id: InnerNodeId) {
@@ -227,12 +226,12 @@ impl<K: Key, V: Drop, A: Argument<K>> NodeStore for NodeStoreVec<K, V, A> {
 }
 
 impl<K: Key, V: Clone, A: Argument<K>> Clone for NodeStoreVec<K, V, A> {
-    ghost use Rattle.bptree_stores.specs.PlaceClones.{IsStoreClone};
+    ghost use Rattle.bptree_stores.specs.IdStateClones.{IsStoreClone};
 
     ghost is_clone = { IsStoreClone K.is_clone V.is_clone A.is_clone };
 
-    /// A store of clones, which remembers the same hint and gives out the released numbers in the
-    /// same order. A failure drops the clones made so far.
+    /// Clones every node. The clone has the same cached leaf and reuses released ids in the same
+    /// order. If a clone of a node fails, the clones made so far are dropped.
     fn clone(&self) -> Result<Self, AllocError> {
         Ok(NodeStoreVec {
             inner_nodes: self.inner_nodes.clone()?,
@@ -245,7 +244,7 @@ impl<K: Key, V: Clone, A: Argument<K>> Clone for NodeStoreVec<K, V, A> {
 }
 
 impl<K: Key, V: Clone, A: Argument<K>> CloneStore for NodeStoreVec<K, V, A> {
-    ghost use Rattle.bptree_stores.specs.PlaceClones.{slots_of_clone};
+    ghost use Rattle.bptree_stores.specs.IdStateClones.{slots_of_clone};
 
     ghost clone_has_same_numbers = { slots_of_clone K.is_clone V.is_clone A.is_clone };
 }

@@ -1,4 +1,4 @@
--- Two lists of pairs of which each key of the first is below each key of the second.
+-- Two lists of pairs, each key of the first below each key of the second.
 use Rattle.std.proofs.Common.{◌≡◌, ◌∙◌, ◌-◌, suc, sym, ap, refl, None, Some, List, [], ◌∷◌, ◌++◌, length, arith, slice_get}
 use Rattle.std.specs.Cmp.{IsTotalOrder}
 use Rattle.std.specs.Map.{keys_of}
@@ -22,7 +22,8 @@ module _ {K V : Type 0} {cmp : K → K → Ordering} (total : IsTotalOrder cmp) 
       let above = AllByRecursion-weaker (λ key. cmp q.0 key ≡ Less) (λ key. cmp p.0 key ≡ Less) (λ key more. total.trans p.0 q.0 key less more) (keys_of l) (sorted_head cmp q.0 (keys_of l) up) in
       ascending_cons cmp p.0 (q.0 ∷ keys_of l) (less, above) up
 
-  -- where the last key of one list is below the first of another, each key is
+  -- two ascending lists ascend as one if the last key of the first is below the first key of the
+  -- second
   pub ascending_both : (a b : List (K × V)) (x y : K × V) → last_member a ≡ Some x → slice_get b 0 ≡ Some y → cmp x.0 y.0 ≡ Less → IsAscending cmp a → IsAscending cmp b → IsAscending cmp (a ++ b)
   ascending_both [] b x y last first less up up' = absurd (let z : None ≡ Some x = last in cc)
   ascending_both (p ∷ a) [] x y last first less up up' = absurd (let z : None ≡ Some y = first in cc)

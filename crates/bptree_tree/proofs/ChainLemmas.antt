@@ -1,4 +1,4 @@
--- The first and the last leaf of a chain are taken out, and the others stay one.
+-- A chain without its first or its last leaf is a chain.
 use Rattle.std.proofs.Common.{inl, inr, ◌≡◌, ◌≢◌, ℕ, zero, suc, ◌+◌, ◌-◌, ◌<◌, ◌≤◌, cond, List, [], ◌∷◌, ◌++◌, length, refl, sym, ap, subst, ◌∙◌, arith, Option, Some, None, eqb, append-nil, length-append}
 use Rattle.std.proofs.lemmas.Bool.Decides.{eqb_tells}
 use Rattle.std.specs.List.{AllByRecursion}
@@ -13,23 +13,23 @@ use Rattle.bptree_keys.specs.declared.node_id.NodeId.TheVariants as kind
 use Rattle.bptree_nodes.specs.Inner.{Inner}
 use Rattle.bptree_nodes.specs.Leaf.{Leaf}
 use Rattle.bptree_nodes.specs.Slot.{Slot, Slots, Free, Held, Present, IsPresent}
-use Rattle.bptree_shape.specs.Edit.{SameLinks}
-use Rattle.bptree_shape.specs.Leaves.{pairs_of, IsFirstLeaf, IsLastLeaf}
-use Rattle.bptree_shape.specs.Shape.{leaf_pairs, leaf_prev, leaf_next, pairs_at, leaves_at, AreLinked, IsWellShaped}
-use Rattle.bptree_shape.proofs.Agreeing.{each_keeps, stands_le}
-use Rattle.bptree_shape.proofs.Down.{pairs_of_leaves}
-use Rattle.bptree_shape.proofs.Ends.{leaves_have}
-use Rattle.bptree_shape.proofs.Hinted.{count_of, count_leaves, total-append}
-use Rattle.bptree_shape.proofs.Walk.{flat-append}
-use Rattle.bptree_ascent.proofs.Lent.{pairs_apart}
-use Rattle.bptree_ascent.proofs.Relinked.{linked_same, one_at, same_links}
+use Rattle.bptree_invariant.specs.Edit.{SameLinks}
+use Rattle.bptree_invariant.specs.Leaves.{pairs_of, IsFirstLeaf, IsLastLeaf}
+use Rattle.bptree_invariant.specs.Shape.{leaf_pairs, leaf_prev, leaf_next, pairs_at, leaves_at, AreLinked, IsWellShaped}
+use Rattle.bptree_invariant.proofs.Agreeing.{each_keeps, stored_le}
+use Rattle.bptree_invariant.proofs.Down.{pairs_of_leaves}
+use Rattle.bptree_invariant.proofs.Ends.{leaves_have}
+use Rattle.bptree_invariant.proofs.Hinted.{count_of, count_leaves, total-append}
+use Rattle.bptree_invariant.proofs.Walk.{flat-append}
+use Rattle.bptree_propagation.proofs.Borrowed.{pairs_apart}
+use Rattle.bptree_propagation.proofs.Relinked.{linked_same, one_at, same_links}
 use Rattle.bptree_tree.specs.Chain.{IsChain, IsLeft, chain_pairs, LeaveAt, end_of, inward_link, with_end}
 use Rattle.bptree_tree.specs.declared.chain.Ends.{Ends}
-use Rattle.bptree_iteration.specs.Span.{IsSpan, leaves_of}
-use Rattle.bptree_iteration.proofs.SpanLemmas.{pairs_left-span}
+use Rattle.bptree_iter.specs.Span.{IsSpan, leaves_of}
+use Rattle.bptree_iter.proofs.SpanLemmas.{pairs_left-span}
 use Rattle.bptree_tree.proofs.Spans.{last_in, span_of}
 
--- what holds of all members holds of the last
+-- a property of all members holds of the last
 all_last : {X : Type 0} (P : X → Type 0) (front : List X) (last : X) → AllByRecursion P (front ++ last ∷ []) → P last
 all_last P [] last all = all.0
 all_last P (x ∷ front) last all = all_last P front last all.1
@@ -51,7 +51,7 @@ module _ {K V A : Type 0} (slots : Slots (Inner K A) (Leaf K V)) where
       let span : IsSpan (leaves_of slots) first 0 chain.rest end to xs = rw pairs (span_of slots first chain.rest chain.before chain.after linked full) in
       pairs_left-span (leaves_of slots) first 0 chain.rest end to xs len span counted
 
-  -- where the last of some linked leaves is cut off
+  -- some linked leaves without the last, which are linked too
   record Cut (before : Option LeafNodeId) (front : List LeafNodeId) (last : LeafNodeId) : Type 0 where
     ahead : List LeafNodeId
     end : LeafNodeId
@@ -66,7 +66,7 @@ module _ {K V A : Type 0} (slots : Slots (Inner K A) (Leaf K V)) where
       record { ahead = x ∷ more.ahead; end = more.end; parts = ap (λ ids. x ∷ ids) more.parts; named = more.named; linked = (linked.0, linked.1, more.linked) }
 
 module _ {K V A : Type 0} (old new : Slots (Inner K A) (Leaf K V)) (number : ℕ) (others : (n : ℕ) → n ≢ number → new.leaf n ≡ old.leaf n) where
-  -- leaves with other numbers stay
+  -- leaves with other ids are unchanged
   stay : (ids : List LeafNodeId) → count_of ids number ≡ 0 → AllByRecursion (λ (id : LeafNodeId). new.leaf id.0 ≡ old.leaf id.0) ids
   stay [] none = tt
   stay (l ∷ ids) none =
@@ -87,7 +87,7 @@ module _ {K V A : Type 0} (old new : Slots (Inner K A) (Leaf K V)) (number : ℕ
       each_keeps (λ (id : LeafNodeId). P (old.leaf id.0)) (λ (id : LeafNodeId). P (new.leaf id.0)) ids (AllByRecursion-weaker Stays Keeps keeps ids (stay ids none)) full
 
 module _ {K V A : Type 0} (old new : Slots (Inner K A) (Leaf K V)) (first last : LeafNodeId) (xs : List (K × V)) (chain : IsChain old first last xs) where
-  -- the first leaf leaves: its pairs come first, and the next leaf is the first
+  -- the first leaf is taken out: its pairs come first, and the next leaf becomes the first
   pub record FirstLeaves (leaf : Leaf K V) : Type 0 where
     pub rest : List (K × V)
     pub parts : xs ≡ leaf.pairs ++ rest
@@ -197,7 +197,7 @@ module _ {K V A : Type 0} (old new : Slots (Inner K A) (Leaf K V)) (first last :
           starts_of : (rest : List LeafNodeId) → (x ∷ front) ++ last ∷ [] ≡ first ∷ rest → x ≡ first
           starts_of rest e = cc
 
--- so many pairs are left: none, or those of a chain
+-- so many pairs are left: they are those of a chain, or the list is empty
 left_of : {K V A : Type 0} (slots : Slots (Inner K A) (Leaf K V)) (first last : LeafNodeId) (xs : List (K × V)) (len : ℕ) → len ≡ length xs → (0 < length xs → IsChain slots first last xs) → IsLeft slots first last len × (chain_pairs slots first len ≡ xs)
 left_of slots first last [] len counted chain = rw counted (record { counted = refl; chain = λ some. absurd (omega arith) }, refl)
 left_of slots first last (x ∷ xs) len counted chain =
@@ -206,7 +206,7 @@ left_of slots first last (x ∷ xs) len counted chain =
     (record { counted = rw walked counted; chain = λ some. rw walked here }, walked)
 
 module _ {K V A : Type 0} (old new : Slots (Inner K A) (Leaf K V)) (ends : Ends) (len : ℕ) (left : IsLeft old ends.first ends.last len) (more : 0 < len) where
-  -- a leaf stands at each end
+  -- there is a leaf at each end
   pub end_present : (at : End) → IsPresent (old.leaf (end_of at ends).0)
   end_present Front = let chain = left.chain more in present_with_pairs (old.leaf ends.first.0) (subst (AllByRecursion (λ (id : LeafNodeId). 0 < length (leaf_pairs (old.leaf id.0)))) chain.starts chain.full).0
   end_present Back =
@@ -214,7 +214,7 @@ module _ {K V A : Type 0} (old new : Slots (Inner K A) (Leaf K V)) (ends : Ends)
       let HasPair : LeafNodeId → Type 0 = λ id. 0 < length (leaf_pairs (old.leaf id.0)) in
       present_with_pairs (old.leaf ends.last.0) (all_last HasPair chain.ahead ends.last (subst (AllByRecursion HasPair) chain.ends chain.full))
 
-  -- what the code reads of the leaf that it took out: its length, and its link, where it has one
+  -- the code reads the length of the leaf that it took out, and its link, if it has one
   module _ (leaf seen counted : Leaf K V) (seen_is : seen ≡ leaf) (counted_is : counted ≡ leaf) (n : ℕ) (n_is : n ≡ length counted.pairs) (link : Option LeafNodeId) (to : LeafNodeId) where
     long : n ≡ length leaf.pairs
     long = n_is ∙ ap (λ (l : Leaf K V). length l.pairs) counted_is
@@ -222,7 +222,7 @@ module _ {K V A : Type 0} (old new : Slots (Inner K A) (Leaf K V)) (ends : Ends)
     names : (link_of : Leaf K V → Option LeafNodeId) (here : LeafNodeId) → link ≡ link_of seen → to ≡ unwrap_or link here → (id : LeafNodeId) → link_of leaf ≡ Some id → to ≡ id
     names link_of here is named id e = named ∙ ap (λ (o : Option LeafNodeId). unwrap_or o here) (is ∙ (ap link_of seen_is ∙ e))
 
-    -- what is left once the leaf at an end is taken out
+    -- the leaves and pairs that are left once the leaf at an end is taken out
     pub record EndOut (at : End) : Type 0 where
       pub within : n ≤ len
       pub left' : IsLeft new (with_end at ends to).first (with_end at ends to).last (len - n)
@@ -250,15 +250,15 @@ module _ {K V A : Type 0} (cmp : K → K → Ordering) (is_summary : A → List 
   tree_chain : (h : ℕ) (root : NodeId) (first last : LeafNodeId) → IsWellShaped cmp is_summary slots h root → IsFirstLeaf slots h root first → IsLastLeaf slots h root last → 0 < length (pairs_at slots h root) → IsChain slots first last (pairs_at slots h root)
   tree_chain h root first last w f l some = record {
     ids = leaves_at slots h root;
-    rest = f.stands.after;
-    starts = f.stands.leaves ∙ ap (λ before. before ++ first ∷ f.stands.after) f.first;
-    ahead = l.stands.before;
-    ends = l.stands.leaves ∙ ap (λ after. l.stands.before ++ last ∷ after) l.last;
+    rest = f.stored.after;
+    starts = f.stored.leaves ∙ ap (λ before. before ++ first ∷ f.stored.after) f.first;
+    ahead = l.stored.before;
+    ends = l.stored.leaves ∙ ap (λ after. l.stored.before ++ last ∷ after) l.last;
     before = None;
     after = None;
     linked = w.linked;
     full = tree_full h root w some;
-    once = λ n. omega (arith, count_leaves slots h root n, w.leaves n, stands_le (slots.leaf n));
+    once = λ n. omega (arith, count_leaves slots h root n, w.leaves n, stored_le (slots.leaf n));
     pairs = sym (pairs_of_leaves slots h root);
   }
 

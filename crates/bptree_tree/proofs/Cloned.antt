@@ -1,4 +1,5 @@
--- A store of clones: the tree there has equal keys in the same order, the clones of the values, and the same shape.
+-- A store of clones: its tree has equal keys in the same order, the clones of the values, and the
+-- same shape.
 use Rattle.std.proofs.Common.{◌≡◌, ℕ, zero, suc, ◌+◌, List, [], ◌∷◌, length, map, refl, sym, ap, ◌∙◌, arith, Option, Some, None, cond, eqb, ◌||◌}
 use Rattle.std.specs.declared.cmp.Ordering.{Ordering}
 use Rattle.std.specs.declared.cmp.Ordering.TheVariants.{Less, Equal}
@@ -21,10 +22,10 @@ use Rattle.bptree_stores.specs.Clones.{IsSlotClone, IsSlotsClone}
 use Rattle.bptree_keys.specs.declared.node_id.LeafNodeId.{LeafNodeId}
 use Rattle.bptree_keys.specs.declared.node_id.NodeId.{NodeId}
 use Rattle.bptree_keys.specs.declared.node_id.NodeId.TheVariants as kind
-use Rattle.bptree_shape.specs.Order.{flat, AtLeast, Under, AtMost, Within, Chain}
-use Rattle.bptree_shape.specs.Shape.{leaf_pairs, leaf_prev, leaf_next, inner_keys, inner_children, inner_arguments, pairs_at, leaves_at, leaf_count, inner_count, stands, AreLinked, IsSummed, IsTree, IsWellShaped, root_least}
-use Rattle.bptree_shape.proofs.Agreeing.{present_if_stands, stands_if_present, flat_same, total_same, each_keeps}
-use Rattle.bptree_ascent.proofs.Alike.{every}
+use Rattle.bptree_invariant.specs.Order.{flat, AtLeast, Under, AtMost, Within, Chain}
+use Rattle.bptree_invariant.specs.Shape.{leaf_pairs, leaf_prev, leaf_next, inner_keys, inner_children, inner_arguments, pairs_at, leaves_at, leaf_count, inner_count, stored, AreLinked, IsSummed, IsTree, IsWellShaped, root_least}
+use Rattle.bptree_invariant.proofs.Agreeing.{present_if_stored, stored_if_present, flat_same, total_same, each_keeps}
+use Rattle.bptree_propagation.proofs.Alike.{every}
 
 zip_weaker : {X Y : Type 0} (P Q : X → Y → Type 0) → ((x : X) (y : Y) → P x y → Q x y) → (xs : List X) (ys : List Y) → AllZip P xs ys → AllZip Q xs ys
 zip_weaker P Q so [] [] all = tt
@@ -32,7 +33,7 @@ zip_weaker P Q so [] (y ∷ ys) all = absurd all
 zip_weaker P Q so (x ∷ xs) [] all = absurd all
 zip_weaker P Q so (x ∷ xs) (y ∷ ys) all = (so x y all.0, zip_weaker P Q so xs ys all.1)
 
--- what holds of the members of one list holds of those of the other
+-- a property of the members of one list holds of those of the other
 zip_turns : {X Y : Type 0} (R : X → Y → Type 0) (P : X → Type 0) (Q : Y → Type 0) → ((x : X) (y : Y) → R x y → P x → Q y) → (xs : List X) (ys : List Y) → AllZip R xs ys → AllByRecursion P xs → AllByRecursion Q ys
 zip_turns R P Q turns [] [] zipped all = tt
 zip_turns R P Q turns [] (y ∷ ys) zipped all = absurd zipped
@@ -48,7 +49,7 @@ module _ {K : Type 0} (cmp : K → K → Ordering) where
   abbrev AreEqual : List K → List K → Type 0
   AreEqual keys copies = AllZip (λ k c. cmp k c ≡ Equal) keys copies
 
-  -- bounds that are equal, or none
+  -- the bounds are equal, or both are absent
   abbrev AreBounds : Option K → Option K → Type 0
   AreBounds None None = Unit {0}
   AreBounds None (Some b) = ⊥
@@ -56,27 +57,27 @@ module _ {K : Type 0} (cmp : K → K → Ordering) where
   AreBounds (Some a) (Some b) = cmp a b ≡ Equal
 
   module _ (total : IsTotalOrder cmp) where
-    -- equal keys answer the same
-    same_answer : (k c a b : K) → cmp k c ≡ Equal → cmp a b ≡ Equal → cmp c b ≡ cmp k a
-    same_answer k c a b same bound = sym (total.congr k c b same) ∙ sym (alike_right total a b k bound)
+    -- equal keys compare alike
+    same_result : (k c a b : K) → cmp k c ≡ Equal → cmp a b ≡ Equal → cmp c b ≡ cmp k a
+    same_result k c a b same bound = sym (total.congr k c b same) ∙ sym (alike_right total a b k bound)
 
     at_least : (lo lo' : Option K) (k c : K) → AreBounds lo lo' → cmp k c ≡ Equal → AtLeast cmp lo k → AtLeast cmp lo' c
     at_least None None k c bound same h = tt
     at_least None (Some b) k c bound same h = absurd bound
     at_least (Some a) None k c bound same h = absurd bound
-    at_least (Some a) (Some b) k c bound same h = ap is_lt (same_answer k c a b same bound) ∙ h
+    at_least (Some a) (Some b) k c bound same h = ap is_lt (same_result k c a b same bound) ∙ h
 
     under : (hi hi' : Option K) (k c : K) → AreBounds hi hi' → cmp k c ≡ Equal → Under cmp hi k → Under cmp hi' c
     under None None k c bound same h = tt
     under None (Some b) k c bound same h = absurd bound
     under (Some a) None k c bound same h = absurd bound
-    under (Some a) (Some b) k c bound same h = same_answer k c a b same bound ∙ h
+    under (Some a) (Some b) k c bound same h = same_result k c a b same bound ∙ h
 
     at_most : (hi hi' : Option K) (k c : K) → AreBounds hi hi' → cmp k c ≡ Equal → AtMost cmp hi k → AtMost cmp hi' c
     at_most None None k c bound same h = tt
     at_most None (Some b) k c bound same h = absurd bound
     at_most (Some a) None k c bound same h = absurd bound
-    at_most (Some a) (Some b) k c bound same h = ap is_lt (same_answer a b k c bound same) ∙ h
+    at_most (Some a) (Some b) k c bound same h = ap is_lt (same_result a b k c bound same) ∙ h
 
     chain_alike : {C : Type 0} (P Q : C → Option K → Option K → Type 0) (ks ks' : List K) (cs : List C) (lo hi lo' hi' : Option K) → AreEqual ks ks'
         → AllByRecursion (λ c. (a b a' b' : Option K) → AreBounds a a' → AreBounds b b' → P c a b → Q c a' b') cs
@@ -99,19 +100,19 @@ module _ {K : Type 0} (cmp : K → K → Ordering) where
     ascending_alike (k ∷ keys) [] equal ascending = absurd equal
     ascending_alike (k ∷ keys) (c ∷ copies) equal ascending =
         ascending_cons cmp c copies
-        (zip_turns (λ x y. cmp x y ≡ Equal) (λ y. cmp k y ≡ Less) (λ y. cmp c y ≡ Less) (λ x y same less. same_answer k c x y equal.0 same ∙ less) keys copies equal.1 (sorted_head cmp k keys ascending))
+        (zip_turns (λ x y. cmp x y ≡ Equal) (λ y. cmp k y ≡ Less) (λ y. cmp c y ≡ Less) (λ x y same less. same_result k c x y equal.0 same ∙ less) keys copies equal.1 (sorted_head cmp k keys ascending))
         (ascending_alike keys copies equal.1 (sorted_tail cmp k keys ascending))
 
 module _ {N : Type 0} (node_clone : N → N → Type 0) where
-  -- what holds of two free slots, of two held ones, and of a node and its clone
+  -- a relation of two free slots, of two held ones, and of a node and its clone
   of_slots : (P : Slot N → Slot N → Type 0) → P Free Free → P Held Held → ((node copy : N) → node_clone node copy → P (Present node) (Present copy)) → (old new : Slot N) → IsSlotClone node_clone old new → P old new
   of_slots P free held node Free new is = rw is free
   of_slots P free held node Held new is = rw is held
   of_slots P free held node (Present x) new is = rw is.1 (node x is.0 is.2)
 
-  -- a node stands in both or in none, and one is held only with the other
+  -- a node is in both slots or in neither, and one slot is held only with the other
   abbrev IsSlotAlike : Slot N → Slot N → Type 0
-  IsSlotAlike old new = (stands new ≡ stands old) × (new ≡ Held → old ≡ Held)
+  IsSlotAlike old new = (stored new ≡ stored old) × (new ≡ Held → old ≡ Held)
 
   slot_alike : (old new : Slot N) → IsSlotClone node_clone old new → IsSlotAlike old new
   slot_alike = of_slots IsSlotAlike (refl, λ h. h) (refl, λ h. h) (λ node copy clone. (refl, λ h. cc))
@@ -127,7 +128,7 @@ module _ {K V : Type 0} (cmp : K → K → Ordering) (value_clone : V → V → 
   zip_keys (p ∷ pairs) [] all = absurd all
   zip_keys (p ∷ pairs) (q ∷ copies) all = (all.0.0, zip_keys pairs copies all.1)
 
-  -- the links of leaves are the same, and the second's pairs are clones
+  -- the links of both leaves are equal, and the second's pairs are clones of the first's
   record LeafAlike (old new : Slot (Leaf K V)) : Type 0 where
     pairs : AllZip IsPairClone (leaf_pairs old) (leaf_pairs new)
     prev : leaf_prev new ≡ leaf_prev old
@@ -143,7 +144,7 @@ module _ {K V : Type 0} (cmp : K → K → Ordering) (value_clone : V → V → 
         })
 
 module _ {K A : Type 0} (cmp : K → K → Ordering) (argument_clone : A → A → Type 0) where
-  -- the same of inner nodes: the same children, equal keys, and clones of the arguments
+  -- both inner nodes have the same children and equal keys, and the second's arguments are clones
   record InnerAlike (old new : Slot (Inner K A)) : Type 0 where
     keys : AreEqual cmp (inner_keys old) (inner_keys new)
     arguments : AllZip argument_clone (inner_arguments old) (inner_arguments new)
@@ -162,13 +163,13 @@ module _ {K A : Type 0} (cmp : K → K → Ordering) (argument_clone : A → A �
 summaries_alike : {C K A : Type 0} (cmp : K → K → Ordering) (is_summary : A → List K → Type 0) (argument_clone : A → A → Type 0)
     → ((a b : A) (keys copies : List K) → argument_clone a b → AllZip (λ k c. cmp k c ≡ Equal) keys copies → is_summary a keys → is_summary b copies)
     → (f g : C → List K) (was now : List A) (cs : List C) → AllZip argument_clone was now → AllByRecursion (λ c. AreEqual cmp (f c) (g c)) cs → AllZip is_summary was (map f cs) → AllZip is_summary now (map g cs)
-summaries_alike cmp is_summary argument_clone told f g [] [] [] clones equal all = tt
-summaries_alike cmp is_summary argument_clone told f g [] (b ∷ now) cs clones equal all = absurd clones
-summaries_alike cmp is_summary argument_clone told f g (a ∷ was) [] cs clones equal all = absurd clones
-summaries_alike cmp is_summary argument_clone told f g [] [] (c ∷ cs) clones equal all = absurd all
-summaries_alike cmp is_summary argument_clone told f g (a ∷ was) (b ∷ now) [] clones equal all = absurd all
-summaries_alike cmp is_summary argument_clone told f g (a ∷ was) (b ∷ now) (c ∷ cs) clones equal all =
-    (told a b (f c) (g c) clones.0 equal.0 all.0, summaries_alike cmp is_summary argument_clone told f g was now cs clones.1 equal.1 all.1)
+summaries_alike cmp is_summary argument_clone reported f g [] [] [] clones equal all = tt
+summaries_alike cmp is_summary argument_clone reported f g [] (b ∷ now) cs clones equal all = absurd clones
+summaries_alike cmp is_summary argument_clone reported f g (a ∷ was) [] cs clones equal all = absurd clones
+summaries_alike cmp is_summary argument_clone reported f g [] [] (c ∷ cs) clones equal all = absurd all
+summaries_alike cmp is_summary argument_clone reported f g (a ∷ was) (b ∷ now) [] clones equal all = absurd all
+summaries_alike cmp is_summary argument_clone reported f g (a ∷ was) (b ∷ now) (c ∷ cs) clones equal all =
+    (reported a b (f c) (g c) clones.0 equal.0 all.0, summaries_alike cmp is_summary argument_clone reported f g was now cs clones.1 equal.1 all.1)
 
 module _ {K V A : Type 0} {cmp : K → K → Ordering} (total : IsTotalOrder cmp) (is_summary : A → List K → Type 0) (key_clone : K → K → Type 0) (value_clone : V → V → Type 0) (argument_clone : A → A → Type 0)
     (clone_is_equal : (x y : K) → key_clone x y → cmp x y ≡ Equal)
@@ -180,13 +181,13 @@ module _ {K V A : Type 0} {cmp : K → K → Ordering} (total : IsTotalOrder cmp
   inner : (n : ℕ) → InnerAlike cmp argument_clone (old.inner n) (new.inner n)
   inner n = inner_alike cmp argument_clone key_clone clone_is_equal (old.inner n) (new.inner n) (is.inner n)
 
-  leaf_slot : (n : ℕ) → (stands (new.leaf n) ≡ stands (old.leaf n)) × (new.leaf n ≡ Held → old.leaf n ≡ Held)
+  leaf_slot : (n : ℕ) → (stored (new.leaf n) ≡ stored (old.leaf n)) × (new.leaf n ≡ Held → old.leaf n ≡ Held)
   leaf_slot n = slot_alike (IsLeafClone key_clone value_clone) (old.leaf n) (new.leaf n) (is.leaf n)
 
-  inner_slot : (n : ℕ) → (stands (new.inner n) ≡ stands (old.inner n)) × (new.inner n ≡ Held → old.inner n ≡ Held)
+  inner_slot : (n : ℕ) → (stored (new.inner n) ≡ stored (old.inner n)) × (new.inner n ≡ Held → old.inner n ≡ Held)
   inner_slot n = slot_alike (IsInnerClone key_clone argument_clone) (old.inner n) (new.inner n) (is.inner n)
 
-  -- the pairs are clones, in their order
+  -- the clone's pairs are clones of the pairs, in their order
   pub pairs_alike : (h : ℕ) (id : NodeId) → AllZip (IsPairClone cmp value_clone) (pairs_at old h id) (pairs_at new h id)
   pairs_alike zero (kind.Leaf id) = (leaf id.0).pairs
   pairs_alike zero (kind.Inner id) = tt
@@ -218,8 +219,8 @@ module _ {K V A : Type 0} {cmp : K → K → Ordering} (total : IsTotalOrder cmp
       let cs = inner_children (old.inner id.0) in
       rw (inner id.0).children (ap (λ m. cond (eqb id.0 n) 1 0 + m) (total_same (λ c. inner_count old h c n) (λ c. inner_count new h c n) cs (every _ (λ c. inner_counts_same h c n) cs)))
 
-  present_alike : {N : Type 0} (x y : Slot N) → stands y ≡ stands x → IsPresent x → IsPresent y
-  present_alike x y same present = present_if_stands y (omega (arith, same, stands_if_present x present))
+  present_alike : {N : Type 0} (x y : Slot N) → stored y ≡ stored x → IsPresent x → IsPresent y
+  present_alike x y same present = present_if_stored y (omega (arith, same, stored_if_present x present))
 
   leaf_tree : (least : ℕ) (id : LeafNodeId) (lo hi lo' hi' : Option K) → AreBounds cmp lo lo' → AreBounds cmp hi hi' → IsTree cmp old least 0 (kind.Leaf id) lo hi → IsTree cmp new least 0 (kind.Leaf id) lo' hi'
   leaf_tree least id lo hi lo' hi' low high t =
@@ -266,7 +267,7 @@ module _ {K V A : Type 0} {cmp : K → K → Ordering} (total : IsTotalOrder cmp
   linked_alike p (x ∷ []) q l = ((leaf x.0).prev ∙ l.0, (leaf x.0).next ∙ l.1)
   linked_alike p (x ∷ y ∷ ys) q l = ((leaf x.0).prev ∙ l.0, (leaf x.0).next ∙ l.1, linked_alike (Some x) (y ∷ ys) q l.2)
 
-  -- all of the shape
+  -- the clone's nodes have the shape of a tree
   pub shape_alike : (h : ℕ) (root : NodeId) → IsWellShaped cmp is_summary old h root → IsWellShaped cmp is_summary new h root
   shape_alike h root w = record {
     tree = tree_alike (root_least h) h root None None None None tt tt w.tree;
@@ -278,15 +279,15 @@ module _ {K V A : Type 0} {cmp : K → K → Ordering} (total : IsTotalOrder cmp
     linked = rw (leaves_same h root) (linked_alike None (leaves_at old h root) None w.linked);
   }
 
-  -- the number of pairs
+  -- both have equally many pairs
   pub long_alike : (h : ℕ) (root : NodeId) → length (pairs_at new h root) ≡ length (pairs_at old h root)
   long_alike h root = AllZip-long (IsPairClone cmp value_clone) (pairs_at old h root) (pairs_at new h root) (pairs_alike h root)
 
-  -- the summary of all keys
-  pub told_alike : (h : ℕ) (root : NodeId) (a b : A) → argument_clone a b → is_summary a (keys_of (pairs_at old h root)) → is_summary b (keys_of (pairs_at new h root))
-  told_alike h root a b clone told = clone_is_summary a b (keys_of (pairs_at old h root)) (keys_of (pairs_at new h root)) clone (keys_alike h root) told
+  -- a clone of a summary of all keys is a summary of the clone's keys
+  pub reported_alike : (h : ℕ) (root : NodeId) (a b : A) → argument_clone a b → is_summary a (keys_of (pairs_at old h root)) → is_summary b (keys_of (pairs_at new h root))
+  reported_alike h root a b clone reported = clone_is_summary a b (keys_of (pairs_at old h root)) (keys_of (pairs_at new h root)) clone (keys_alike h root) reported
 
--- clones of some pairs have the same keys
+-- a key is among the clones of some pairs if and only if it is among the pairs
 pub has_alike : {K V : Type 0} {cmp : K → K → Ordering} (total : IsTotalOrder cmp) (value_clone : V → V → Type 0) (pairs copies : List (K × V)) → AllZip (IsPairClone cmp value_clone) pairs copies → (k : K) → has cmp copies k ≡ has cmp pairs k
 has_alike total value_clone [] [] all k = refl
 has_alike total value_clone [] (q ∷ copies) all k = absurd all

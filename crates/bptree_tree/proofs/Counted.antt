@@ -1,4 +1,5 @@
--- How many pairs a tree has after a put, and whether a value that was read says that the key is there.
+-- The number of pairs of a tree after a put, and whether a value that was read shows that the key
+-- is there.
 use Rattle.std.proofs.Common.{◌≡◌, ◌+◌, Bool, false, List, length, refl, sym, ap, ◌∙◌, Option, Some, None, is_some, Bor}
 use Rattle.std.specs.declared.cmp.Ordering.{Ordering}
 use Rattle.std.specs.Cmp.{IsTotalOrder}
@@ -12,7 +13,7 @@ copied_some None = refl
 copied_some (Some r) = refl
 
 module _ {K V : Type 0} (cmp : K → K → Ordering) (l : List (K × V)) (k : K) where
-  -- the key is there where the read gave a value
+  -- the key is there if and only if the read gave a value
   pub has_read : (r : Option (Bor V)) (b : Bool) → option_copied r ≡ value cmp l k → is_some r ≡ b → has cmp l k ≡ b
   has_read r b e s = sym (has_where_value cmp l k) ∙ (ap is_some (sym e) ∙ (copied_some r ∙ s))
 

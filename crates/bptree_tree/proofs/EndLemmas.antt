@@ -3,7 +3,7 @@ use Rattle.std.proofs.Common.{◌≡◌, ◌-◌, ◌∙◌, ℕ, zero, suc, ◌
 use Rattle.std.specs.List.{remove}
 use Rattle.std.proofs.lemmas.Option.{get_or_from_slice_get}
 use Rattle.bptree_keys.proofs.Found.{parts_at}
-use Rattle.bptree_shape.proofs.ListReads.{read_below}
+use Rattle.bptree_invariant.proofs.ListReads.{read_below}
 use Rattle.bptree_tree.specs.Changes.{PopsEnd}
 
 none_behind : {X : Type 0} (xs : List X) (n : ℕ) → length xs ≤ n → drop n xs ≡ []
@@ -25,7 +25,7 @@ module _ {X : Type 0} (new : List X) (x : X) where
       let rest : new ≡ take i l = is ∙ (ap (λ r. take i l ++ r) none ∙ append-nil (take i l)) in
       parts_at l i x within ∙ rw (get_or_from_slice_get l i x x read, none, rest) refl
 
-  -- the same of the one end or the other
+  -- the list without its last member or its first one, by a flag
   pub end_taken : (is_last : Bool) (l : List X) → slice_get l (cond is_last (length l - 1) 0) ≡ Some x → new ≡ remove l (cond is_last (length l - 1) 0) → PopsEnd is_last l new (Some x)
   end_taken true l read is = last_taken l read is
   end_taken false l read is = first_taken l read is

@@ -9,7 +9,7 @@ use Rattle.std.specs.Ordering.{is_lt, is_eq}
 use Rattle.std.proofs.lemmas.List.Elements.{filter-append}
 use Rattle.std.proofs.lemmas.Option.{get_or_from_slice_get}
 use Rattle.bptree_keys.specs.Contents.{IsAscending, has, value}
-use Rattle.bptree_keys.specs.Places.{AllAnswer, IsHit}
+use Rattle.bptree_keys.specs.Indexes.{AllCompare, IsHit}
 use Rattle.bptree_keys.specs.declared.node_id.LeafNodeId.{LeafNodeId}
 use Rattle.bptree_keys.specs.declared.node_id.NodeId.{NodeId}
 use Rattle.bptree_keys.proofs.Found.{hit_at}
@@ -18,16 +18,16 @@ use Rattle.bptree_nodes.specs.Inner.{Inner}
 use Rattle.bptree_nodes.specs.Leaf.{Leaf}
 use Rattle.bptree_nodes.specs.LeafResults.{HasEqualAt}
 use Rattle.bptree_nodes.specs.Slot.{Slots, Present}
-use Rattle.bptree_shape.specs.Leaves.{pairs_of, IsLeafFor}
-use Rattle.bptree_shape.specs.Shape.{pairs_at, root_least, IsWellShaped}
-use Rattle.bptree_shape.proofs.Ordered.{by_cases}
-use Rattle.bptree_shape.proofs.Walk.{tree_ascends}
-use Rattle.bptree_descents.proofs.Selected.{place_read}
+use Rattle.bptree_invariant.specs.Leaves.{pairs_of, IsLeafFor}
+use Rattle.bptree_invariant.specs.Shape.{pairs_at, root_least, IsWellShaped}
+use Rattle.bptree_invariant.proofs.Ordered.{by_cases}
+use Rattle.bptree_invariant.proofs.Walk.{tree_ascends}
+use Rattle.bptree_search.proofs.Selected.{index_read}
 use Rattle.bptree_tree.specs.Entries.{entry, at_least}
 
 module _ {K V : Type 0} (cmp : K → K → Ordering) where
-  -- pairs that answer otherwise are passed over
-  entry_past : (k : K) (o : Ordering) (before l : List (K × V)) → is_eq o ≡ false → AllAnswer cmp k o before → entry cmp (before ++ l) k ≡ entry cmp l k
+  -- pairs whose keys do not compare as equal are passed over
+  entry_past : (k : K) (o : Ordering) (before l : List (K × V)) → is_eq o ≡ false → AllCompare cmp k o before → entry cmp (before ++ l) k ≡ entry cmp l k
   entry_past k o [] l fails all = refl
   entry_past k o (p ∷ before) l fails all = rw (all.0, fails) (entry_past k o before l fails all.1)
 
@@ -49,7 +49,7 @@ module _ {K V : Type 0} (cmp : K → K → Ordering) where
   entry_value [] k = refl
   entry_value (p ∷ l) k = by_cases (cmp p.0 k) (λ less. rw less (entry_value l k)) (λ equal. rw equal refl) (λ greater. rw greater (entry_value l k))
 
--- the pair at a place is the pair of each key that equals its key
+-- the pair at an index is the pair of each key that equals its key
 pub entry_at : {K V : Type 0} {cmp : K → K → Ordering} → IsTotalOrder cmp → (l : List (K × V)) (i : ℕ) (pair : K × V) (k : K) → IsAscending cmp l → slice_get l i ≡ Some pair → cmp pair.0 k ≡ Equal → entry cmp l k ≡ Some pair
 entry_at {cmp = cmp} total l i pair k sorted read equal = entry_hit cmp l _ pair _ k (rw (get_or_from_slice_get l i pair pair read) at (hit_at cmp total l sorted k i pair (rw read equal)).1)
 
@@ -61,17 +61,17 @@ module _ {K V A : Type 0} {cmp : K → K → Ordering} (total : IsTotalOrder cmp
   sorted : IsAscending cmp whole
   sorted = tree_ascends total slots (root_least h) h root None None shape.tree
 
-  abbrev pub place : ℕ
-  place = length (pairs_of slots for'.stands.before) + slot
+  abbrev pub index : ℕ
+  index = length (pairs_of slots for'.stored.before) + slot
 
-  read_whole : slice_get whole place ≡ Some pair
-  read_whole = place_read slots h root leaf for'.stands slot pair (rw here read)
+  read_whole : slice_get whole index ≡ Some pair
+  read_whole = index_read slots h root leaf for'.stored slot pair (rw here read)
 
   equal : cmp pair.0 k ≡ Equal
   equal = rw read at found
 
-  pub hit_there : IsHit cmp whole (take place whole) pair (drop (suc place) whole) k
-  hit_there = rw (get_or_from_slice_get whole place pair pair read_whole) at (hit_at cmp total whole sorted k place pair (rw read_whole equal)).1
+  pub hit_there : IsHit cmp whole (take index whole) pair (drop (suc index) whole) k
+  hit_there = rw (get_or_from_slice_get whole index pair pair read_whole) at (hit_at cmp total whole sorted k index pair (rw read_whole equal)).1
 
   pub entry_there : entry cmp (pairs_at slots h root) k ≡ Some pair
   entry_there = entry_hit cmp whole _ pair _ k hit_there

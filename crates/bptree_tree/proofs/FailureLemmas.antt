@@ -1,10 +1,10 @@
--- How an insertion failed, by what its contract says of each error.
+-- How an insertion failed, by what its contract states of each error.
 use Rattle.std.proofs.Common.{◌≡◌, ◌∙◌, ◌↔◌, ℕ, Bool, true, false, List, length, Result, Ok, Err, ap, refl, sym}
 use Rattle.std.specs.Prelude.{IsOk, IsTrue}
 use Rattle.std.specs.declared.cmp.Ordering.{Ordering}
 use Rattle.bptree_keys.specs.Contents.{has}
-use Rattle.bptree_tree.specs.Changes.{IsFailureOf, IsInsertFailure, IsRefusedWhereFull}
-use Rattle.bptree_tree.specs.Refusal.{pair_of, HandsBack}
+use Rattle.bptree_tree.specs.Changes.{IsFailureOf, IsInsertFailure, FailsIfFull}
+use Rattle.bptree_tree.specs.Returning.{pair_of, ReturnsPair}
 use Rattle.bptree_tree.specs.declared.InsertError.{InsertError}
 use Rattle.bptree_tree.specs.declared.InsertError.TheVariants.{Full, OutOfMemory}
 
@@ -24,7 +24,7 @@ module _ {R K V : Type 0} (n most : ℕ) (is_there : K → Bool) where
       let absent = absent_if_failed (is_there k) result (OutOfMemory j w) is present in
       (λ most_now. (let never : Err (OutOfMemory j w) ≡ Err (Full k v) = sym is ∙ full.1 (most_now, absent) in cc), rw (ap (λ pair. pair.0) same) absent)
 
--- the same of a list of pairs, which the failure leaves as it was
+-- how an insertion into a list of pairs failed, which the failure leaves unchanged
 module _ {R K V : Type 0} (cmp : K → K → Ordering) (most : ℕ) (old new : List (K × V)) where
-  pub failure_of : (k : K) (v : V) (result : Result R (InsertError K V)) (error : InsertError K V) → result ≡ Err error → HandsBack (k, v) old new error → (IsTrue (has cmp old k) → IsOk result) → IsRefusedWhereFull cmp most old k v result → IsFailureOf cmp most new error
+  pub failure_of : (k : K) (v : V) (result : Result R (InsertError K V)) (error : InsertError K V) → result ≡ Err error → ReturnsPair (k, v) old new error → (IsTrue (has cmp old k) → IsOk result) → FailsIfFull cmp most old k v result → IsFailureOf cmp most new error
   failure_of k v result error is back present full = rw back.1 (failure_is (length old) most (has cmp old) k v result error is back.0 present full)

@@ -1,10 +1,10 @@
--- The last members of a list leave it one by one.
+-- The last members of a list are removed one by one.
 use Rattle.std.proofs.Common.{◌≡◌, ◌∙◌, ◌+◌, ◌-◌, ℕ, sym, ap, List, [], ◌∷◌, ◌++◌, length, take, drop, reverse, arith, append_assoc, length-append}
 use Rattle.std.proofs.Math.Seq.{drop-append_seam, take-append_seam}
 use Rattle.std.proofs.lemmas.Grind.{reverse_onto}
 
 module _ {X : Type 0} where
-  -- some members have left, and came behind others, the last first; so many are to come
+  -- some members were removed and appended to others, the last first; `left` are still to come
   pub record AreTaken (old cur taken : List X) (count left : ℕ) (before after : List X) : Type 0 where
     pub all : old ≡ cur ++ taken
     pub sum : length taken + left ≡ count
@@ -17,7 +17,7 @@ module _ {X : Type 0} where
     moved = ap (λ l. l ++ x ∷ []) are.moved ∙ (append_assoc before (reverse taken) (x ∷ []) ∙ ap (λ l. before ++ l) (sym (reverse_onto taken x [])));
   }
 
-  -- what is left, and what has left
+  -- the members that are left, and those that were removed
   module _ (old cur taken : List X) (all : old ≡ cur ++ taken) (count : ℕ) (long : length taken ≡ count) where
     rest_long : length old - count ≡ length cur
     rest_long = omega (arith, ap length all, length-append cur taken, long)

@@ -8,7 +8,7 @@ pub mod FailureLemmas
 pub mod GapLemmas
 pub mod Heights
 pub mod LastTaken
-pub mod LentAt
+pub mod BorrowedAt
 pub mod PageLemmas
 pub mod PartSpans
 pub mod RangeRemovalLemmas

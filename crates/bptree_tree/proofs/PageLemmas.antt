@@ -8,9 +8,9 @@ use Rattle.std.proofs.lemmas.List.Filters.{length-filter_both}
 use Rattle.std.proofs.lemmas.Nat.{mul-le}
 use Rattle.std.proofs.lemmas.Map.Entries.{length-keys_of}
 use Rattle.std.specs.Int.{div_ceil}
-use Rattle.bptree_arguments.specs.CountLaws.{SelectsPlace}
+use Rattle.bptree_arguments.specs.CountLaws.{SelectsIndex}
 use Rattle.bptree_keys.specs.Ranges.{part}
-use Rattle.bptree_descents.specs.ByArgument.{IsPartSelected}
+use Rattle.bptree_search.specs.ByArgument.{IsPartSelected}
 use Rattle.bptree_tree.specs.Pages.{page, first_pages}
 
 module _ {X : Type 0} (l : List X) (s : ℕ) where
@@ -31,24 +31,24 @@ module _ {X : Type 0} (l : List X) (s : ℕ) where
       let more = mul-le (div_ceil (length l) s) s p s later (omega arith) in
       past_end p (omega (arith, before.0, more))
 
--- so many pairs from a place that is the page's, or the greatest number where that is less, are the page
-pub page_is : {K V : Type 0} (l : List (K × V)) (p s i : ℕ) (found : List (K × V)) → i ≡ min (p * s) (2 ^ 64 - 1) → length l < 2 ^ 64 → IsPartSelected SelectsPlace i l s found → found ≡ page l p s
+-- so many pairs from the page's index, or from the greatest number if that is less, are the page
+pub page_is : {K V : Type 0} (l : List (K × V)) (p s i : ℕ) (found : List (K × V)) → i ≡ min (p * s) (2 ^ 64 - 1) → length l < 2 ^ 64 → IsPartSelected SelectsIndex i l s found → found ≡ page l p s
 page_is l p s i found is fits (None, no_place, past, part) =
     let beyond : length l ≤ i = rw (length-keys_of l) at past in
     part ∙ sym (past_end l s p (omega (arith, is, beyond, fits)))
 page_is l p s i found is fits (Some j, inside, at, shown) =
     let within : i < length l = rw (at.0, length-keys_of l) at at.1 in
-    let place : j ≡ p * s = omega (arith, is, at.0, within, fits) in
-    shown ∙ ap (λ k. part l k s) place
+    let index : j ≡ p * s = omega (arith, is, at.0, within, fits) in
+    shown ∙ ap (λ k. part l k s) index
 
--- so many members from a place on that is the page's, or the greatest number where that is less, are the page of a list
+-- so many members from the page's index, or from the greatest number if that is less, are the page
 pub part_is_page : {X : Type 0} (l : List X) (p s i : ℕ) → i ≡ min (p * s) (2 ^ 64 - 1) → length l < 2 ^ 64 → part l i s ≡ page l p s
 part_is_page l p s i is fits =
     elim (cases_lt i (p * s)) [
       | inl beyond ↦ ap (take s) (drop_all i l (omega (arith, is, beyond, fits))) ∙ take-nil s ∙ sym (past_end l s p (omega (arith, is, beyond, fits)))
       | inr within ↦
-          let place : i ≡ p * s = omega (arith, is, within) in
-          ap (λ k. part l k s) place
+          let index : i ≡ p * s = omega (arith, is, within) in
+          ap (λ k. part l k s) index
     ]
 
 pub filter_fits : {X : Type 0} (test : X → Bool) (l : List X) → length l < 2 ^ 64 → length (filter test l) < 2 ^ 64

@@ -1,4 +1,4 @@
--- A part of a tree's contents stands between two places in its leaves.
+-- A part of a tree's contents is between two positions in its leaves.
 use Rattle.std.proofs.Common.{◌≡◌, ℕ, zero, suc, ◌+◌, ◌-◌, ◌<◌, ◌≤◌, inl, inr, List, [], ◌∷◌, ◌++◌, length, take, drop, refl, sym, ap, subst, ◌∙◌, arith, Option, Some, None, append_assoc, length-append, length-drop, take-append-drop}
 use Rattle.std.proofs.lemmas.List.{drop-append-le, length-take-le, take_all}
 use Rattle.std.specs.declared.cmp.Ordering.{Ordering}
@@ -13,22 +13,22 @@ use Rattle.bptree_keys.specs.declared.node_id.NodeId.{NodeId}
 use Rattle.bptree_keys.specs.Contents.{IsAscending}
 use Rattle.bptree_keys.specs.Ranges.{part}
 use Rattle.bptree_keys.proofs.PieceLemmas.{AllByRecursion-right}
-use Rattle.bptree_iteration.specs.declared.part.Part.{Part}
-use Rattle.bptree_iteration.specs.declared.part.Extent.TheVariants.{Exact}
-use Rattle.bptree_shape.specs.Leaves.{pairs_of, IsFirstLeaf, IsLastLeaf}
-use Rattle.bptree_ranges.specs.Ranges.{ahead, place_on, start, IsPart}
-use Rattle.bptree_shape.specs.Shape.{leaf_pairs, leaf_prev, leaf_next, leaves_at, pairs_at, AreLinked, IsWellShaped}
-use Rattle.bptree_descents.proofs.Beside.{HasPair, others_have}
+use Rattle.bptree_iter.specs.declared.part.Part.{Part}
+use Rattle.bptree_iter.specs.declared.part.PartLen.TheVariants.{Exact}
+use Rattle.bptree_invariant.specs.Leaves.{pairs_of, IsFirstLeaf, IsLastLeaf}
+use Rattle.bptree_ranges.specs.Ranges.{ahead, index_on, start, IsPart}
+use Rattle.bptree_invariant.specs.Shape.{leaf_pairs, leaf_prev, leaf_next, leaves_at, pairs_at, AreLinked, IsWellShaped}
+use Rattle.bptree_search.proofs.Beside.{HasPair, others_have}
 use Rattle.bptree_ranges.proofs.Ranged.{sides, start_is, ahead_of, reached, comes_before, take_of_take}
-use Rattle.bptree_shape.proofs.Ordered.{ascending_after}
-use Rattle.bptree_shape.proofs.Spot.{parts_of, ascending_before}
-use Rattle.bptree_shape.proofs.Walk.{flat-append}
-use Rattle.bptree_iteration.specs.Span.{IsSpan, AreApart, IsBetween, Tells, leaves_of, leaf_of, first_between}
-use Rattle.bptree_iteration.proofs.SpanLemmas.{first_of_span, take-part}
+use Rattle.bptree_invariant.proofs.Ordered.{ascending_after}
+use Rattle.bptree_invariant.proofs.Spot.{parts_of, ascending_before}
+use Rattle.bptree_invariant.proofs.Walk.{flat-append}
+use Rattle.bptree_iter.specs.Span.{IsSpan, AreApart, IsBetween, Reports, leaves_of, leaf_of, first_between}
+use Rattle.bptree_iter.proofs.SpanLemmas.{first_of_span, take-part}
 use Rattle.bptree_tree.proofs.Spans.{some_of, tree_span}
 use Rattle.std.proofs.lemmas.Bool.Decides.{eqb_tells}
 
--- dropping what stands before, and taking over a seam
+-- drops up to the seam of two lists and beyond, and takes over the seam
 drop_past : {X : Type 0} (xs ys : List X) (n : ℕ) → drop (length xs + n) (xs ++ ys) ≡ drop n ys
 drop_past [] ys n = let e : 0 + n ≡ n = omega arith in rw e refl
 drop_past (x ∷ xs) ys n = let e : suc (length xs) + n ≡ suc (length xs + n) = omega arith in rw e (drop_past xs ys n)
@@ -90,14 +90,14 @@ module _ {K V A : Type 0} (slots : Slots (Inner K A) (Leaf K V)) where
   first_prev x y [] q l = l.0
   first_prev x y (z ∷ zs) q l = l.0
 
-  -- the links of the last of a list of leaves
+  -- the last of some linked leaves are linked
   linked_tail : (p : Option LeafNodeId) (before rest : List LeafNodeId) (q : Option LeafNodeId) → AreLinked slots p (before ++ rest) q → (p' : Option LeafNodeId) × AreLinked slots p' rest q
   linked_tail p [] rest q h = (p, h)
   linked_tail p (x ∷ []) [] q h = (p, tt)
   linked_tail p (x ∷ []) (y ∷ ys) q h = (Some x, h.2)
   linked_tail p (x ∷ y ∷ before) rest q h = linked_tail (Some x) (y ∷ before) rest q h.2
 
-  -- from a place of a leaf, on to what begins in the next
+  -- the span from a slot of a leaf, on to a span that begins in the next leaf
   span_ahead : (x y : LeafNodeId) (ids more : List LeafNodeId) (back : LeafNodeId) (from to : ℕ) (p q : Option LeafNodeId) (ys : List (K × V)) → AreLinked slots p (x ∷ y ∷ ids) q → AllByRecursion (HasPair slots) (x ∷ y ∷ ids) → from ≤ length (leaf_pairs (slots.leaf x.0)) → IsSpan (leaves_of slots) y 0 more back to ys
       → IsSpan (leaves_of slots) x from (y ∷ more) back to (drop from (leaf_pairs (slots.leaf x.0)) ++ ys)
   span_ahead x y ids more back from to p q ys linked all h rest =
@@ -118,7 +118,7 @@ module _ {K V A : Type 0} (slots : Slots (Inner K A) (Leaf K V)) where
         rest,
       )
 
-  -- from a place of a leaf, over others, to a place of the last
+  -- the span from a slot of a leaf, over others, to a slot of the last
   span_over : (x : LeafNodeId) (mid : List LeafNodeId) (back : LeafNodeId) (rest : List LeafNodeId) (from to : ℕ) (p q : Option LeafNodeId) → AreLinked slots p (x ∷ (mid ++ back ∷ rest)) q
       → AllByRecursion (HasPair slots) (x ∷ (mid ++ back ∷ rest)) → from ≤ length (leaf_pairs (slots.leaf x.0)) → to ≤ length (leaf_pairs (slots.leaf back.0))
       → IsSpan (leaves_of slots) x from (mid ++ back ∷ []) back to (drop from (leaf_pairs (slots.leaf x.0)) ++ (pairs_of slots mid ++ take to (leaf_pairs (slots.leaf back.0))))
@@ -136,7 +136,7 @@ module _ {K V A : Type 0} {cmp : K → K → Ordering} (is_summary : A → List 
   abbrev size : LeafNodeId → ℕ
   size leaf = length (leaf_pairs (slots.leaf leaf.0))
 
-  -- how many pairs stand between the two places of a part, and which
+  -- the number of pairs between the two positions of a part, and these pairs
   abbrev wide : Part → ℕ
   wide p = (start slots h root p.back.leaf + p.back.slot) - (start slots h root p.front.leaf + p.front.slot)
 
@@ -147,17 +147,17 @@ module _ {K V A : Type 0} {cmp : K → K → Ordering} (is_summary : A → List 
   up p xs is =
       elim is.rises [
         | inl behind ↦ omega (arith, behind)
-        | inr same ↦ (let e = ap (place_on slots h root) same in omega (arith, e))
+        | inr same ↦ (let e = ap (index_on slots h root) same in omega (arith, e))
       ]
 
   -- a part that begins and ends in one leaf
   one_leaf : (p : Part) (xs : List (K × V)) (is : IsPart slots h root p xs) → p.front.leaf ≡ p.back.leaf → IsSpan (leaves_of slots) p.front.leaf p.front.slot [] p.back.leaf p.back.slot (within p)
   one_leaf p xs is same =
-      let at = present_slot (slots.leaf p.front.leaf.0) is.front.stands.present in
+      let at = present_slot (slots.leaf p.front.leaf.0) is.front.stored.present in
       let e : start slots h root p.front.leaf ≡ start slots h root p.back.leaf = ap (start slots h root) same in
       let s : size p.back.leaf ≡ size p.front.leaf = ap size (sym same) in
       let long : size p.front.leaf ≡ length at.0.pairs = ap (λ s. length (leaf_pairs s)) at.1 in
-      let in' = is.front.stands in
+      let in' = is.front.stored in
       let i : start slots h root p.front.leaf ≡ length (pairs_of slots in'.before) = start_is is_summary slots h root shape p.front.leaf in' in
       let xs_is : within p ≡ drop p.front.slot (take p.back.slot (leaf_pairs (slots.leaf p.front.leaf.0))) =
       (ap (λ l. part l (start slots h root p.front.leaf + p.front.slot) (wide p)) (parts_of slots h root p.front.leaf in')
@@ -170,12 +170,12 @@ module _ {K V A : Type 0} {cmp : K → K → Ordering} (is_summary : A → List 
       present_slot Held h = absurd h
       present_slot (Present leaf) h = (leaf, refl)
 
-  -- one that goes over the ends of leaves
-  more_leaves : (p : Part) (xs : List (K × V)) (is : IsPart slots h root p xs) (mid : List LeafNodeId) → is.front.stands.after ≡ mid ++ p.back.leaf ∷ is.back.stands.after → is.back.stands.before ≡ is.front.stands.before ++ p.front.leaf ∷ mid
+  -- a part that spans several leaves
+  more_leaves : (p : Part) (xs : List (K × V)) (is : IsPart slots h root p xs) (mid : List LeafNodeId) → is.front.stored.after ≡ mid ++ p.back.leaf ∷ is.back.stored.after → is.back.stored.before ≡ is.front.stored.before ++ p.front.leaf ∷ mid
       → IsSpan (leaves_of slots) p.front.leaf p.front.slot (mid ++ p.back.leaf ∷ []) p.back.leaf p.back.slot (within p)
   more_leaves p xs is mid e f =
-      let in' = is.front.stands in
-      let out = is.back.stands in
+      let in' = is.front.stored in
+      let out = is.back.stored in
       let here = leaf_pairs (slots.leaf p.front.leaf.0) in
       let last = leaf_pairs (slots.leaf p.back.leaf.0) in
       let linked = linked_tail slots None in'.before (p.front.leaf ∷ in'.after) None (subst (λ ids. AreLinked slots None ids None) in'.leaves shape.linked) in
@@ -195,30 +195,30 @@ module _ {K V A : Type 0} {cmp : K → K → Ordering} (is_summary : A → List 
       ∙ more_pieces (pairs_of slots in'.before) here (pairs_of slots mid) last (pairs_of slots out.after) p.front.slot p.back.slot (wide p) is.front.within is.back.within (omega (arith, up p xs is, i, j)))) in
       subst (IsSpan (leaves_of slots) p.front.leaf p.front.slot (mid ++ p.back.leaf ∷ []) p.back.leaf p.back.slot) (sym xs_is) span
 
-  others_between : (p : Part) (xs : List (K × V)) (is : IsPart slots h root p xs) (mid : List LeafNodeId) → is.back.stands.before ≡ is.front.stands.before ++ p.front.leaf ∷ mid → AreApart p.front.leaf (mid ++ p.back.leaf ∷ []) p.back.leaf
+  others_between : (p : Part) (xs : List (K × V)) (is : IsPart slots h root p xs) (mid : List LeafNodeId) → is.back.stored.before ≡ is.front.stored.before ++ p.front.leaf ∷ mid → AreApart p.front.leaf (mid ++ p.back.leaf ∷ []) p.back.leaf
   others_between p xs is mid f =
-      let all = subst (AllByRecursion (λ (y : LeafNodeId). y ≡ p.back.leaf → ⊥)) (ahead_of is_summary slots h root shape p.back.leaf is.back.stands ∙ f) (others_ahead p.back.leaf (leaves_at slots h root)) in
-      apart_over p.front.leaf mid p.back.leaf (AllByRecursion-right (λ (y : LeafNodeId). y ≡ p.back.leaf → ⊥) is.front.stands.before (p.front.leaf ∷ mid) all)
+      let all = subst (AllByRecursion (λ (y : LeafNodeId). y ≡ p.back.leaf → ⊥)) (ahead_of is_summary slots h root shape p.back.leaf is.back.stored ∙ f) (others_ahead p.back.leaf (leaves_at slots h root)) in
+      apart_over p.front.leaf mid p.back.leaf (AllByRecursion-right (λ (y : LeafNodeId). y ≡ p.back.leaf → ⊥) is.front.stored.before (p.front.leaf ∷ mid) all)
 
   long_within : (p : Part) (xs : List (K × V)) (is : IsPart slots h root p xs) → wide p ≡ length (within p)
   long_within p xs is =
-      let all = reached is_summary slots h root shape p.back.leaf is.back.stands in
+      let all = reached is_summary slots h root shape p.back.leaf is.back.stored in
       let l = length-drop (start slots h root p.front.leaf + p.front.slot) (pairs_at slots h root) in
       sym (length-take-le (wide p) (drop (start slots h root p.front.leaf + p.front.slot) (pairs_at slots h root)) (omega (arith, l, all, up p xs is, is.back.within)))
 
-  -- what an iterator over the part asks, and shows
-  pub part_between_places : (p : Part) (xs : List (K × V)) → IsPart slots h root p xs → IsBetween (leaves_of slots) p.front.leaf p.front.slot p.back.leaf p.back.slot p.limit p.extent × (first_between (leaves_of slots) p.front.leaf p.front.slot p.back.leaf p.back.slot p.limit ≡ xs)
-  part_between_places p xs is =
-      let tells = subst (Tells p.extent p.limit) (long_within p xs is) is.tells in
+  -- an iterator over the part has its precondition, and yields the part's pairs
+  pub part_between_indexes : (p : Part) (xs : List (K × V)) → IsPart slots h root p xs → IsBetween (leaves_of slots) p.front.leaf p.front.slot p.back.leaf p.back.slot p.limit p.extent × (first_between (leaves_of slots) p.front.leaf p.front.slot p.back.leaf p.back.slot p.limit ≡ xs)
+  part_between_indexes p xs is =
+      let reports = subst (Reports p.extent p.limit) (long_within p xs is) is.reports in
       let cut : take p.limit (within p) ≡ xs = take_of_take p.limit (wide p) (drop (start slots h root p.front.leaf + p.front.slot) (pairs_at slots h root)) ∙ sym is.pairs in
       let so : (ids : List LeafNodeId) → IsSpan (leaves_of slots) p.front.leaf p.front.slot ids p.back.leaf p.back.slot (within p) → AreApart p.front.leaf ids p.back.leaf → IsBetween (leaves_of slots) p.front.leaf p.front.slot p.back.leaf p.back.slot p.limit p.extent × (first_between (leaves_of slots) p.front.leaf p.front.slot p.back.leaf p.back.slot p.limit ≡ xs) =
-      (λ ids span apart. (record { ids = ids; pairs = within p; span = span; apart = apart; tells = tells }, first_of_span (leaves_of slots) p.front.leaf p.front.slot ids p.back.leaf p.back.slot (within p) p.limit span apart ∙ cut)) in
-      elim (sides p.front.leaf p.back.leaf is.front.stands.before is.front.stands.after is.back.stands.before is.back.stands.after (sym is.front.stands.leaves ∙ is.back.stands.leaves)) [
+      (λ ids span apart. (record { ids = ids; pairs = within p; span = span; apart = apart; reports = reports }, first_of_span (leaves_of slots) p.front.leaf p.front.slot ids p.back.leaf p.back.slot (within p) p.limit span apart ∙ cut)) in
+      elim (sides p.front.leaf p.back.leaf is.front.stored.before is.front.stored.after is.back.stored.before is.back.stored.after (sym is.front.stored.leaves ∙ is.back.stored.leaves)) [
         | inl same ↦ so [] (one_leaf p xs is same.1) tt
         | inr rest ↦ (elim rest [
           | inl first ↦ so (first.0 ++ p.back.leaf ∷ []) (more_leaves p xs is first.0 first.2 first.1) (others_between p xs is first.0 first.1)
           | inr last ↦
-              (let before = comes_before is_summary slots h root shape p.back.leaf p.front.leaf is.back.stands is.front.stands last.0 last.1 last.2 in
+              (let before = comes_before is_summary slots h root shape p.back.leaf p.front.leaf is.back.stored is.front.stored last.0 last.1 last.2 in
               elim is.rises [
                 | inl behind ↦ absurd (omega (arith, behind, before.from, is.back.within))
                 | inr same ↦ so [] (one_leaf p xs is (sym (ap (λ (at : Position). at.leaf) same))) tt
@@ -226,18 +226,18 @@ module _ {K V A : Type 0} {cmp : K → K → Ordering} (is_summary : A → List 
         ])
       ]
 
-  -- what an iterator over the whole asks, and shows
+  -- an iterator over the whole tree has its precondition, and yields all pairs
   pub whole_between : (first last : LeafNodeId) (node : Leaf K V) (n : ℕ) → (f : IsFirstLeaf slots h root first) → (l : IsLastLeaf slots h root last) → slots.leaf last.0 ≡ Present node → n ≡ length (pairs_at slots h root)
       → IsBetween (leaves_of slots) first 0 last (length node.pairs) n Exact × (first_between (leaves_of slots) first 0 last (length node.pairs) n ≡ pairs_at slots h root)
   whole_between first last node n f l here counted =
       let pairs = pairs_at slots h root in
       let span = tree_span cmp is_summary slots h root first last node shape f l here in
-      let a : leaves_at slots h root ≡ first ∷ f.stands.after = f.stands.leaves ∙ ap (λ before. before ++ first ∷ f.stands.after) f.first in
-      let b : leaves_at slots h root ≡ l.stands.before ++ last ∷ [] = l.stands.leaves ∙ ap (λ after. l.stands.before ++ last ∷ after) l.last in
-      let all = subst (AllByRecursion (λ (y : LeafNodeId). y ≡ last → ⊥)) (ahead_of is_summary slots h root shape last l.stands) (others_ahead last (leaves_at slots h root)) in
-      let apart = whole_apart first f.stands.after l.stands.before last (sym a ∙ b) all in
-      let e = first_of_span (leaves_of slots) first 0 f.stands.after last (length node.pairs) pairs n span apart in
-      (record { ids = f.stands.after; pairs = pairs; span = span; apart = apart; tells = sym counted }, e ∙ take_all n pairs (omega (arith, counted)))
+      let a : leaves_at slots h root ≡ first ∷ f.stored.after = f.stored.leaves ∙ ap (λ before. before ++ first ∷ f.stored.after) f.first in
+      let b : leaves_at slots h root ≡ l.stored.before ++ last ∷ [] = l.stored.leaves ∙ ap (λ after. l.stored.before ++ last ∷ after) l.last in
+      let all = subst (AllByRecursion (λ (y : LeafNodeId). y ≡ last → ⊥)) (ahead_of is_summary slots h root shape last l.stored) (others_ahead last (leaves_at slots h root)) in
+      let apart = whole_apart first f.stored.after l.stored.before last (sym a ∙ b) all in
+      let e = first_of_span (leaves_of slots) first 0 f.stored.after last (length node.pairs) pairs n span apart in
+      (record { ids = f.stored.after; pairs = pairs; span = span; apart = apart; reports = sym counted }, e ∙ take_all n pairs (omega (arith, counted)))
 
 -- a part of an ascending list ascends
 pub part_ascends : {K V : Type 0} {cmp : K → K → Ordering} (total : IsTotalOrder cmp) (l : List (K × V)) (i n : ℕ) → IsAscending cmp l → IsAscending cmp (part l i n)

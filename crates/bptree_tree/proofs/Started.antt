@@ -8,18 +8,18 @@ use Rattle.bptree_nodes.specs.Leaf.{Leaf}
 use Rattle.bptree_nodes.specs.Slot.{Slot, Slots, Free, Held, Present, IsEmpty, UpdatesLeaf}
 use Rattle.bptree_keys.specs.declared.node_id.LeafNodeId.{LeafNodeId}
 use Rattle.bptree_keys.specs.declared.node_id.NodeId.TheVariants as kind
-use Rattle.bptree_shape.specs.Shape.{stands, IsWellShaped}
+use Rattle.bptree_invariant.specs.Shape.{stored, IsWellShaped}
 
 module _ {K V A : Type 0} (cmp : K → K → Ordering) (is_summary : A → List K → Type 0) (old new : Slots (Inner K A) (Leaf K V)) (leaf : LeafNodeId)
     (empty : IsEmpty old) (added : UpdatesLeaf old new leaf.0 (Present (record { pairs = []; prev = None; next = None }))) where
   no_inner : (n : ℕ) → new.inner n ≡ Free
   no_inner n = ap (λ (f : ℕ → Slot (Inner K A)). f n) added.inner ∙ empty.inner n
 
-  counted : (n : ℕ) → cond (eqb leaf.0 n) 1 0 ≡ stands (new.leaf n)
+  counted : (n : ℕ) → cond (eqb leaf.0 n) 1 0 ≡ stored (new.leaf n)
   counted n =
       elim (eqb_tells leaf.0 n) [
-        | inl same ↦ rw same.0 (sym (ap stands (ap new.leaf (sym same.1) ∙ added.leaf.changed)))
-        | inr other ↦ rw other.0 (sym (ap stands (added.leaf.others n (λ e. other.1 (sym e)) ∙ empty.leaf n)))
+        | inl same ↦ rw same.0 (sym (ap stored (ap new.leaf (sym same.1) ∙ added.leaf.changed)))
+        | inr other ↦ rw other.0 (sym (ap stored (added.leaf.others n (λ e. other.1 (sym e)) ∙ empty.leaf n)))
       ]
 
   no_held : (n : ℕ) → new.leaf n ≡ Held → ⊥
@@ -34,7 +34,7 @@ module _ {K V A : Type 0} (cmp : K → K → Ordering) (is_summary : A → List 
   started = record {
     tree = rw added.leaf.changed (tt, tt, tt, omega arith, omega arith);
     leaves = counted;
-    inners = λ n. sym (ap stands (no_inner n));
+    inners = λ n. sym (ap stored (no_inner n));
     no_leaf_held = no_held;
     no_inner_held = λ n held. let e : Free ≡ Held = sym (no_inner n) ∙ held in cc;
     summed = tt;

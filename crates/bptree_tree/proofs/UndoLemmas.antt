@@ -7,7 +7,7 @@ use Rattle.std.specs.Option.{option_copied_mut, is_some as has_value}
 use Rattle.std.specs.Prelude.{IsSome}
 use Rattle.std.specs.declared.cmp.Ordering.{Ordering}
 use Rattle.std.specs.declared.cmp.Ordering.TheVariants.{Equal}
-use Rattle.bptree_ascent.specs.Lending.{written}
+use Rattle.bptree_propagation.specs.Borrowing.{written}
 use Rattle.std.specs.declared.alloc.Global.{Global}
 use Rattle.std.specs.declared.vec.Vec.{Vec}
 use Rattle.bptree_bulk.specs.Filling.{IsFilling}
@@ -17,7 +17,7 @@ use Rattle.bptree_nodes.specs.Inner.{Inner}
 use Rattle.bptree_nodes.specs.Leaf.{Leaf}
 use Rattle.bptree_nodes.specs.Slot.{Slots}
 use Rattle.bptree_keys.specs.Contents.{has, value, put, del, pairs_below, pairs_above, IsAscending}
-use Rattle.bptree_keys.specs.Places.{IsHit}
+use Rattle.bptree_keys.specs.Indexes.{IsHit}
 use Rattle.bptree_keys.proofs.Ascending.{equal_parts, gap_if_absent}
 use Rattle.bptree_keys.proofs.Equal.{has_where_value}
 use Rattle.bptree_keys.proofs.Laws.{found_if_there, hit_if_there, put_ascending}
@@ -44,12 +44,12 @@ value_read o b v is read = some_same b.now v (ap option_copied_mut (sym is) ∙ 
 pub absent_is : {K V : Type 0} (cmp : K → K → Ordering) (l : List (K × V)) (k : K) → None ≡ value cmp l k → has cmp l k ≡ false
 absent_is cmp l k none = sym (has_where_value cmp l k) ∙ ap has_value (sym none)
 
--- what is written at a key that is there is put there
+-- writing a value at a key that is there is putting it there
 pub written_is : {K V : Type 0} (cmp : K → K → Ordering) (l : List (K × V)) (k : K) (was w v : V) → value cmp l k ≡ Some was → w ≡ v → written cmp k l w ≡ put cmp l k v
 written_is cmp l k was w v there same = ap (written cmp k l) same ∙ rw (sym (has_where_value cmp l k) ∙ ap has_value there) refl
 
 module _ {K V : Type 0} {cmp : K → K → Ordering} (total : IsTotalOrder cmp) (l : List (K × V)) (up : IsAscending cmp l) (k : K) (v : V) where
-  -- a pair that was inserted
+  -- undoing the insertion of a pair
   module _ (absent : has cmp l k ≡ false) (c : K) (equal : cmp k c ≡ Equal) where
     abbrev before : List (K × V)
     before = pairs_below cmp l k
@@ -71,7 +71,7 @@ module _ {K V : Type 0} {cmp : K → K → Ordering} (total : IsTotalOrder cmp) 
     pub taken_out : del cmp (put cmp l k v) c ≡ l
     taken_out = del_hit cmp (put cmp l k v) before (k, v) after c inserted_hit ∙ sym (gap_if_absent cmp total l k up absent).parts
 
-  -- a value that was replaced
+  -- undoing the replacement of a value
   module _ (old : V) (was : value cmp l k ≡ Some old) where
     there : has cmp l k ≡ true
     there = sym (has_where_value cmp l k) ∙ ap has_value was
@@ -92,7 +92,7 @@ module _ {K V : Type 0} {cmp : K → K → Ordering} (total : IsTotalOrder cmp) 
         put_hit cmp (put cmp l k v) _ _ _ k hit_then old ∙ (ap (λ w. found.before ++ (found.pair.0, w) ∷ found.after) same ∙ sym hit.parts)
 
 module _ {K V : Type 0} {cmp : K → K → Ordering} (total : IsTotalOrder cmp) (l : List (K × V)) (up : IsAscending cmp l) (pair : K × V) where
-  -- what is taken back of a pair that was inserted
+  -- undoing an insertion restores the pair and the list
   module _ (c : K) (can : (has cmp l pair.0 ≡ false) × (cmp pair.0 c ≡ Equal)) (now : List (K × V)) (put : now ≡ put_pair cmp l pair) where
     pub inserted_pair : entry cmp now c ≡ Some pair
     inserted_pair = ap (λ m. entry cmp m c) put ∙ entry_there total l up pair.0 pair.1 can.0 c can.1
@@ -100,7 +100,7 @@ module _ {K V : Type 0} {cmp : K → K → Ordering} (total : IsTotalOrder cmp) 
     pub inserted_undone : del cmp now c ≡ l
     inserted_undone = ap (λ m. del cmp m c) put ∙ taken_out total l up pair.0 pair.1 can.0 c can.1
 
-  -- and where a value was replaced
+  -- undoing a replacement restores the pair and the list
   module _ (k : K) (old : V) (can : (pair.0 ≡ k) × (value cmp l k ≡ Some old)) (now : List (K × V)) (put' : now ≡ put_pair cmp l pair) where
     now_is : now ≡ put cmp l k pair.1
     now_is = put' ∙ ap (λ j. put cmp l j pair.1) can.0
@@ -119,7 +119,7 @@ module _ {K V : Type 0} (cmp : K → K → Ordering) where
   undo_more (d ∷ es) [] l new e p all can = absurd all
   undo_more (d ∷ es) (q ∷ ps) l new e p all can = (all.0, undo_more es ps (put_pair cmp l q) new e p all.1 can)
 
-  -- the last one
+  -- the last put is undone
   pub record LastUndone (es : List (Undo K V)) (e : Undo K V) (ps l new : List (K × V)) : Type 0 where
     pub firsts : List (K × V)
     pub pair : K × V
@@ -142,7 +142,7 @@ module _ {K V : Type 0} (cmp : K → K → Ordering) where
   pub last_of : IsTotalOrder cmp → {all es : List (Undo K V)} {e : Undo K V} → all ≡ es ++ e ∷ [] → (ps l new : List (K × V)) → IsAscending cmp l → CanUndoAll cmp all ps l new → LastUndone es e ps l new
   last_of total {es = es} {e = e} is ps l new up can = last_undone total es e ps l new up (subst (λ es. CanUndoAll cmp es ps l new) is can)
 
--- the pairs that came back, the last one first, are all
+-- the pairs that came back, the last one first, are all pairs
 pub all_back : {X : Type 0} (moved rest : List X) (p : X) (front back : List X) → front ≡ [] → back ≡ ((front ++ reverse rest) ++ p ∷ []) ++ reverse moved → reverse back ≡ moved ++ p ∷ rest
 all_back moved rest p front back none is =
     ap reverse (is ∙ ap (λ l. ((l ++ reverse rest) ++ p ∷ []) ++ reverse moved) none)
@@ -150,6 +150,6 @@ all_back moved rest p front back none is =
     ∙ (ap (λ l. l ++ reverse (reverse rest ++ p ∷ [])) (reverse-reverse moved)
     ∙ ap (λ l. moved ++ l) (reverse-append (reverse rest) (p ∷ []) ∙ ap (λ l. p ∷ l) (reverse-reverse rest))))
 
--- the room for the pairs is no part of what is found for them
+-- the room for the pairs is no part of what is prepared for them
 pub filling_with : {S K V A : Type 0} (cmp : K → K → Ordering) (is_summary : A → List K → Type 0) (slots : S → Slots (Inner K A) (Leaf K V)) (filling : Filling S K V A) (pairs : Vec (K × V) Global) (l : List (K × V)) → IsFilling cmp is_summary slots filling l → IsFilling cmp is_summary slots (record filling { pairs = pairs }) l
 filling_with cmp is_summary slots filling pairs l is = record { parts = is.parts; are = is.are; framed = is.framed; empty = is.empty; as_many = is.as_many; leaves = is.leaves; count = is.count; ascending = is.ascending }

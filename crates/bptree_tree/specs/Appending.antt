@@ -2,7 +2,7 @@
 use Rattle.std.specs.Prelude.{◌≡◌, List}
 use Rattle.std.specs.declared.cmp.Ordering.{Ordering}
 use Rattle.bptree_bulk.specs.Weave.{put_all, put_pair}
-use Rattle.bptree_shape.specs.NodeTree.{NodeTree}
+use Rattle.bptree_invariant.specs.NodeTree.{NodeTree}
 
 module _ {K V : Type 0} (cmp : K → K → Ordering) where
   -- the pairs of a list with those of another put, one after another

@@ -1,4 +1,4 @@
--- Leaves of a store that follow one another by their links, of which none stands twice and each has a pair.
+-- Leaves of a store that are linked to one another. Each has a pair, and no leaf occurs twice.
 use Rattle.std.specs.Prelude.{◌≡◌, ◌==◌, ℕ, ◌<◌, ◌≤◌, cond, List, [], ◌∷◌, ◌++◌, length, Option}
 use Rattle.std.specs.List.{AllByRecursion}
 use Rattle.std.specs.Map.Iter.{TakesFirst, TakesLast}
@@ -8,14 +8,14 @@ use Rattle.bptree_keys.specs.declared.node_id.LeafNodeId.{LeafNodeId}
 use Rattle.bptree_nodes.specs.Inner.{Inner}
 use Rattle.bptree_nodes.specs.Leaf.{Leaf}
 use Rattle.bptree_nodes.specs.Slot.{Slots}
-use Rattle.bptree_shape.specs.Leaves.{pairs_of}
-use Rattle.bptree_shape.specs.Order.{total}
-use Rattle.bptree_shape.specs.Shape.{leaf_pairs, AreLinked}
-use Rattle.bptree_iteration.specs.Span.{leaves_of, pairs_left}
+use Rattle.bptree_invariant.specs.Leaves.{pairs_of}
+use Rattle.bptree_invariant.specs.Order.{total}
+use Rattle.bptree_invariant.specs.Shape.{leaf_pairs, AreLinked}
+use Rattle.bptree_iter.specs.Span.{leaves_of, pairs_left}
 use Rattle.bptree_tree.specs.declared.chain.Ends.{Ends}
 
 module _ {K V A : Type 0} (slots : Slots (Inner K A) (Leaf K V)) where
-  -- from the leaf `first` to the leaf `last` stand the pairs xs
+  -- xs are the pairs from the leaf `first` to the leaf `last`
   pub record IsChain (first last : LeafNodeId) (xs : List (K × V)) : Type 0 where
     pub ids : List LeafNodeId
     pub rest : List LeafNodeId
@@ -33,16 +33,17 @@ module _ {K V A : Type 0} (slots : Slots (Inner K A) (Leaf K V)) where
   abbrev pub chain_pairs : LeafNodeId → ℕ → List (K × V)
   chain_pairs first len = pairs_left (leaves_of slots) first 0 len
 
-  -- `len` pairs are left: none, or those of the leaves of a chain
+  -- `len` pairs are left, which are those of the leaves of a chain if there are any
   pub record IsLeft (first last : LeafNodeId) (len : ℕ) : Type 0 where
     pub counted : len ≡ length (chain_pairs first len)
     pub chain : 0 < len → IsChain first last (chain_pairs first len)
 
--- no member is left, and none was there
+-- no member is left, and the list was empty
 abbrev pub AreEmpty : {X : Type 0} → List X → List X → Type 0
 AreEmpty old new = (old ≡ []) × (new ≡ [])
 
--- the leaf at one end, its link to the next one inwards, and the ends once another leaf is there
+-- the leaf at one end, its link to the next one inwards, and the ends with another leaf at one of
+-- them
 abbrev pub end_of : End → Ends → LeafNodeId
 end_of Front ends = ends.first
 end_of Back ends = ends.last
@@ -56,21 +57,21 @@ with_end Front ends id = record { first = id; last = ends.last }
 with_end Back ends id = record { first = ends.first; last = id }
 
 module _ {X : Type 0} where
-  -- members, one at least, left the front of a list, or its end
+  -- members, one at least, were removed from the front of a list, or from its end
   abbrev pub LeaveAt : End → List X → List X → List X → Type 0
   LeaveAt Front gone old new = (old ≡ gone ++ new) × (0 < length gone)
   LeaveAt Back gone old new = (old ≡ new ++ gone) × (0 < length gone)
 
-  -- the first member left, or the last one, or there was none
+  -- the first member was removed, or the last one, or the list was empty
   abbrev pub TakesEnd : End → List X → Option X → List X → Type 0
   TakesEnd Front old gone new = TakesFirst (λ x. x) old gone new
   TakesEnd Back old gone new = TakesLast (λ x. x) old gone new
 
-  -- three parts of a list, of which one is near the end that is asked for
+  -- three parts of a list, of which one is near the end in question
   abbrev pub all_from : End → List X → List X → List X → List X
   all_from Front near middle far = near ++ (middle ++ far)
   all_from Back near middle far = far ++ (middle ++ near)
 
-  -- the same of a list in three parts
+  -- the first or last member of a list in three parts was removed, or the list was empty
   abbrev pub TakesEndOfAll : End → List X → List X → List X → Option X → List X → List X → List X → Type 0
   TakesEndOfAll at near middle far gone near' middle' far' = TakesEnd at (all_from at near middle far) gone (all_from at near' middle' far')

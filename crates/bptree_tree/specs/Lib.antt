@@ -4,7 +4,7 @@ pub mod Changes
 pub mod Cursor
 pub mod Entries
 pub mod RangeRemoval
-pub mod Refusal
+pub mod Returning
 pub mod NodeRows
 pub mod Pages
 pub mod Rows

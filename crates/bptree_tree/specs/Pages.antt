@@ -8,7 +8,7 @@ use Rattle.bptree_arguments.specs.CountLaws.{count_below}
 use Rattle.bptree_keys.specs.Contents.{has}
 
 module _ {X : Type 0} where
-  -- page p of s members, or of those that are there
+  -- page p of s members, or of fewer at the end of the list
   abbrev pub page : List X → ℕ → ℕ → List X
   page l p s = part l (p * s) s
 
@@ -22,6 +22,6 @@ module _ {K V G : Type 0} (cmp : G → G → Ordering) (group_of : K → G) wher
   abbrev pub group_page : G → List (K × V) → ℕ → ℕ → List (K × V)
   group_page g l p s = page (of_group cmp group_of g l) p s
 
--- the page of a key, or the page where it would stand
+-- the page of a key, or the page at which it would be inserted
 abbrev pub IsPageOf : {K V : Type 0} → (K → K → Ordering) → List (K × V) → K → ℕ → Result ℕ ℕ → Type 0
-IsPageOf cmp l k s answer = let at = count_below cmp k (keys_of l) / s in answer ≡ (if has cmp l k then Ok at else Err at)
+IsPageOf cmp l k s outcome = let at = count_below cmp k (keys_of l) / s in outcome ≡ (if has cmp l k then Ok at else Err at)

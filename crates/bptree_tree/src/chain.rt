@@ -1,5 +1,5 @@
 //! The leaves of an owned tree, taken out one by one from both ends.
-ghost use Rattle.std.specs.Prelude.{◌≡◌, ◌≢◌, ℕ, MatchOption};
+ghost use Rattle.std.specs.Prelude.{◌≡◌, ◌≢◌, ◌≤◌, ℕ, length, MatchOption};
 ghost use Rattle.bptree_nodes.specs.Slot.{Present, IsPresent};
 ghost use Rattle.bptree_tree.specs.Chain.{IsLeft, chain_pairs, AreEmpty, LeaveAt, end_of, inward_link, with_end};
 
@@ -9,8 +9,9 @@ use bptree_nodes::leaf_node::LeafNode;
 use bptree_stores::node_stores::NodeStore;
 use std::marker::Model;
 
-/// The leaves that are left, seen as their pairs. A leaf that is taken is out of the store, and its
-/// number is released; those that are left are dropped with the store, as the inner nodes are.
+/// The leaves that are left; its model is their pairs. A leaf that is taken is moved out of the
+/// store, and its node id is released. The other leaves are dropped with the store, as the inner
+/// nodes are.
 #[derive(Drop)]
 pub(crate) struct Chain<S: NodeStore> {
     store: S,
@@ -47,7 +48,7 @@ impl Ends {
         }
     }
 
-    // The ends once another leaf is at one of them.
+    // The ends with another leaf at one of them.
     fn with(self, end: End, id: LeafNodeId) -> Ends
         ensures { result ≡ with_end end self id }
     {
@@ -58,7 +59,7 @@ impl Ends {
     }
 }
 
-// The number of the leaf beside one that stands at an end.
+// The node id of the next leaf inwards from a leaf at an end.
 fn link_inward<K: Drop, V: Drop>(leaf: &LeafNode<K, V>, end: End) -> Option<LeafNodeId>
     ensures { result ≡ inward_link end leaf.now }
 {
@@ -68,7 +69,7 @@ fn link_inward<K: Drop, V: Drop>(leaf: &LeafNode<K, V>, end: End) -> Option<Leaf
     }
 }
 
-// The leaf under a number, which is released.
+// Moves a leaf out of the store, and releases its node id.
 fn take_out<S: NodeStore>(store: &mut S, id: LeafNodeId) -> Box<LeafNode<S::K, S::V>>
     requires { IsPresent ((S.slots store.old).leaf id.0) }
     ensures value { (S.slots store.old).leaf id.0 ≡ Present result.value }
@@ -91,7 +92,18 @@ impl<S: NodeStore> Chain<S> {
         }
     }
 
-    /// The first leaf, or the last one, which has a pair.
+    /// Returns the keys of the leaf that `take_end` takes from the front next. The slice is empty if
+    /// no leaf is left.
+    pub(crate) fn next_keys(&self) -> &[S::K]
+        ensures { length result.now ≤ 64 }
+    {
+        match self.store.try_get_leaf(self.ends.first) {
+            Some(leaf) => leaf.keys(),
+            None => &[],
+        }
+    }
+
+    /// Takes out the first leaf, or the last one, which has a pair; `None` if no leaf is left.
     pub(crate) fn take_end(&mut self, end: End) -> Option<Box<LeafNode<S::K, S::V>>>
         ensures { MatchOption result (AreEmpty self.old self.new) (λ leaf. LeaveAt end leaf.value.pairs self.old self.new) }
     {

@@ -1,31 +1,31 @@
-//! An ordered map in memory, which is one strictly ascending list of pairs, as a B+ tree over a
-//! store of nodes.
+//! An ordered map in memory: one strictly ascending list of pairs, stored as a B+ tree over a store
+//! of nodes.
 #![tactic(auto)]
 
 mod chain;
 pub mod cursor;
 pub mod tree;
 
-pub use bptree_iteration::iterator;
+pub use bptree_iter::iterator;
 pub use bptree_rebalancing::statistics::Statistic;
 pub use cursor::Cursor;
 pub use tree::BPlusTree;
 
-/// Why a pair was not stored. It returns key and value.
+/// Why a pair was not stored. The error returns key and value.
 #[derive(Debug, Drop)]
 pub enum InsertError<K, V> {
-    /// A request for memory was refused.
+    /// An allocation failed.
     OutOfMemory(K, V),
-    /// The tree has `usize::MAX` pairs, and none with this key.
+    /// The tree has `usize::MAX` pairs, and no key equals this one.
     Full(K, V),
 }
 
-/// Why no key was replaced. It returns the key that was to be stored.
+/// Why no key was replaced. The error returns the key that was to be stored.
 #[derive(Debug, Drop)]
 pub enum ReplaceError<K> {
-    /// No key equals it.
+    /// No key equals that key.
     Absent(K),
-    /// A key equals it, and an allocation failed.
+    /// A key equals that key, and an allocation failed.
     OutOfMemory(K),
 }
 
@@ -38,11 +38,11 @@ pub enum AppendError {
     Full,
 }
 
-/// Why no value was lent.
+/// Why no value was borrowed.
 #[derive(Debug, PartialEq, Drop)]
 pub enum SelectError {
-    /// No place is allowed for the query.
+    /// No index is allowed for the query.
     NotFound,
-    /// A request for memory was refused.
+    /// An allocation failed.
     OutOfMemory,
 }

@@ -3,22 +3,22 @@ ghost use Rattle.std.specs.Prelude.{◌≡◌, ◌+◌, ◌*◌, ◌^◌, ◌<�
 ghost use Rattle.std.specs.Map.{keys_of};
 ghost use Rattle.std.specs.Map.Iter.{ShowsInOrder, deref_pair};
 ghost use Rattle.std.specs.Option.{option_map, option_copied};
-ghost use Rattle.bptree_ascent.specs.Failing.{NeverFails};
+ghost use Rattle.bptree_propagation.specs.Failing.{NeverFails};
 ghost use Rattle.bptree_keys.specs.Contents.{IsAscending, has, value, last_member};
 ghost use Rattle.bptree_nodes.specs.Slot.{IsEmpty};
-ghost use Rattle.bptree_tree.specs.Refusal.{HandsBack};
+ghost use Rattle.bptree_tree.specs.Returning.{ReturnsPair};
 ghost use Rattle.bptree_tree.specs.Whole.{IsWhole, IsUntouched, HasSameNodes, HasShape, pairs_of_nodes};
-ghost use Rattle.bptree_tree.specs.Changes.{IsRefusedWhereFull, Puts, Removes};
+ghost use Rattle.bptree_tree.specs.Changes.{FailsIfFull, Puts, Removes};
 
 mod bounds;
 mod cloning;
 mod cursors;
 mod entries;
+mod indexes;
 mod lending;
 mod loading;
 mod merging;
 mod owning;
-mod places;
 mod queries;
 mod range_removal;
 mod ranges;
@@ -30,13 +30,13 @@ mod updating;
 use crate::InsertError;
 use crate::tree::lending::value_mut;
 use bptree_insertion::insertion::{is_full, upsert};
-use bptree_iteration::iterator::Iter;
-use bptree_iteration::part::{Extent, Part};
+use bptree_invariant::nodes::Nodes;
+use bptree_iter::iterator::Iter;
+use bptree_iter::part::{Part, PartLen};
 use bptree_keys::compares::Compares;
 use bptree_keys::entry_ref::VisitStack;
 use bptree_keys::node_id::{NodeId, Position};
 use bptree_rebalancing::statistics::Statistic;
-use bptree_shape::nodes::Nodes;
 use bptree_stores::node_stores::{NodeStore, new_empty_leaf};
 pub use owning::IntoIter;
 use std::alloc::AllocError;
@@ -48,12 +48,12 @@ use std::marker::Model;
 pub struct BPlusTree<S: NodeStore> {
     nodes: Nodes<S>,
     statistic: Statistic,
-    // Lent to each change, which begins with none of what it holds.
+    // Scratch space for each change, which overwrites its contents.
     path: VisitStack,
 }
 
 impl<S: NodeStore> Model for BPlusTree<S> {
-    ghost use Rattle.bptree_ascent.specs.NodeTree.{NodeTree};
+    ghost use Rattle.bptree_propagation.specs.NodeTree.{NodeTree};
 
     ghost Value = { NodeTree S S.K S.V S.Argument };
 
@@ -61,7 +61,7 @@ impl<S: NodeStore> Model for BPlusTree<S> {
 }
 
 impl<S: NodeStore> BPlusTree<S> {
-    // The tree of these nodes. It has counted no rebalanced nodes.
+    // The tree of these nodes, with empty statistics.
     pub(crate) fn of_nodes(nodes: Nodes<S>) -> Self
         ensures { result ≡ nodes }
     {
@@ -72,9 +72,10 @@ impl<S: NodeStore> BPlusTree<S> {
         }
     }
 
-    /// A tree with no pairs. Its one leaf allocates.
+    /// A tree with no pairs.
     ///
-    /// O(1), but for the growth of the store. It fails only if an allocation fails.
+    /// O(1), but for the growth of the store. It allocates one leaf, and fails only if an
+    /// allocation fails.
     pub fn new(mut store: S) -> Result<Self, AllocError>
         requires { IsEmpty (S.slots store) }
         ensures empty { IfOk result (λ tree. tree.contents ≡ []) }
@@ -101,8 +102,8 @@ impl<S: NodeStore> BPlusTree<S> {
         self.nodes.len()
     }
 
-    /// Recalls what holds of every tree, for the proofs of callers: the length fits in 64 bits, and the
-    /// keys ascend. It does nothing, in constant time, and never fails.
+    /// Recalls what holds of every tree, for the proofs of callers: the length fits in 64 bits, and
+    /// the keys ascend. It does nothing, in constant time, and never fails.
     ///
     /// O(1).
     #[inline(always)]
@@ -131,8 +132,8 @@ impl<S: NodeStore> BPlusTree<S> {
         self.nodes.get(k, &mut Compares::new())
     }
 
-    /// The value at a key equal to `k`, and a count of comparisons of keys: at least 1 unless the
-    /// tree is empty. That the search makes no comparison that it does not count is tested.
+    /// The value at a key equal to `k`, and the number of comparisons of keys: at least 1 unless
+    /// the tree is empty. Tests check that the search makes no comparison that it does not count.
     ///
     /// O(log n), or O(1) if the store has cached the leaf of `k`. It allocates nothing and cannot
     /// fail.
@@ -186,7 +187,7 @@ impl<S: NodeStore> BPlusTree<S> {
                 slot: end,
             },
             limit: nodes.len,
-            extent: Extent::Exact,
+            extent: PartLen::Exact,
         };
         Iter::new(&nodes.store, part)
     }
@@ -201,11 +202,11 @@ impl<S: NodeStore> BPlusTree<S> {
     /// a key equals `k`, it allocates nothing and cannot fail.
     pub fn insert(&mut self, k: S::K, v: S::V) -> Result<Option<S::V>, InsertError<S::K, S::V>>
         ensures ok { IfOk result (Puts S.K.cmp k v self.old.contents self.new.contents) }
-        ensures err { IfErr result (HandsBack (k, v) self.old.contents self.new.contents) }
+        ensures err { IfErr result (ReturnsPair (k, v) self.old.contents self.new.contents) }
         ensures unchanged { IfErr result (λ _. IsUntouched S.slots self.new self.old) }
         ensures present { IsTrue (has S.K.cmp self.old.contents k) → IsOk result }
         ensures whole { IsWhole S.K.cmp S.Argument.is_summary S.slots self.new }
-        ensures full { IsRefusedWhereFull S.K.cmp usize.MAX self.old.contents k v result }
+        ensures full { FailsIfFull S.K.cmp usize.MAX self.old.contents k v result }
     {
         if is_full(self.nodes.len()) && self.get(&k).is_none() {
             return Err(InsertError::Full(k, v));
@@ -240,7 +241,7 @@ impl<S: NodeStore> BPlusTree<S> {
         }
     }
 
-    /// A summary of all keys; of no keys what `Default` makes.
+    /// A summary of all keys; the `Default` if there are no keys.
     ///
     /// O(1). It allocates nothing and cannot fail.
     pub fn root_argument(&self) -> &S::Argument
@@ -251,15 +252,15 @@ impl<S: NodeStore> BPlusTree<S> {
         &nodes.summary
     }
 
-    /// How often nodes that underflowed were rebalanced. A tree that is new, or was just cleared,
-    /// has counted nothing.
+    /// How often nodes that underflowed were rebalanced. The counts of a tree that is new, or was
+    /// just cleared, are 0.
     ///
     /// O(1). It allocates nothing and cannot fail.
     pub fn statistic(&self) -> &Statistic {
         &self.statistic
     }
 
-    /// The store that holds the nodes: they are those of this tree, and no others.
+    /// The store that holds the nodes of this tree, and no others.
     ///
     /// O(1). It allocates nothing and cannot fail.
     pub fn node_store(&self) -> &S
@@ -271,16 +272,16 @@ impl<S: NodeStore> BPlusTree<S> {
         &nodes.store
     }
 
-    /// The nodes, with the store that holds them, for reads of many keys at once. O(1).
+    /// The nodes, with the store that holds them, for reads of many keys at once.
     ///
-    /// It cannot fail.
+    /// O(1). It allocates nothing and cannot fail.
     pub fn nodes(&self) -> &Nodes<S>
         ensures { result.now ≡ self.now }
     {
         &self.nodes
     }
 
-    /// The number of the root.
+    /// The node id of the root.
     ///
     /// O(1). It allocates nothing and cannot fail.
     pub fn root_id(&self) -> NodeId
@@ -308,13 +309,13 @@ impl<S: NodeStore> BPlusTree<S> {
     ghost use Rattle.std.specs.Borrow.{sem};
     ghost use Rattle.std.specs.Option.{option_copied_mut};
     ghost use Rattle.bptree_keys.specs.Contents.{value};
-    ghost use Rattle.bptree_tree.specs.Rows.{lends_written};
+    ghost use Rattle.bptree_tree.specs.Rows.{borrows_written};
 
     /// The value at the key that equals `k`, for writing, or `None`.
     ///
     /// O(log n). It allocates nothing and cannot fail.
     pub fn get_mut(&mut self, k: &S::K) -> Option<&mut S::V>
-        ensures* writes_back { sem 𝓛 (lends_written S.row S.K.row S.V.row S.Argument.row S.NodeStore S.K.Key S.Argument.Argument self.entry k.now result) }
+        ensures* writes_back { sem 𝓛 (borrows_written S.row S.K.row S.V.row S.Argument.row S.NodeStore S.K.Key S.Argument.Argument self.entry k.now result) }
         ensures value { option_copied_mut result ≡ value S.K.cmp self.old.contents k.now }
     {
         value_mut(&mut self.nodes, k)

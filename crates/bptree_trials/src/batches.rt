@@ -6,15 +6,15 @@ use crate::samples::{Sample, SampleSummary};
 use crate::subject::no_call;
 use crate::words::{Report, Words};
 use bptree_arguments::count::Count;
-use bptree_maps::map::BPlusTreeMap;
-use bptree_sets::set::BPlusTreeSet;
+use bptree_map::map::BPlusTreeMap;
+use bptree_set::set::BPlusTreeSet;
 use std::alloc::{AllocError, Global};
 
-// What a slice has where a call writes nothing.
+// The value in a slice if the call does not write it.
 const UNTOUCHED: u64 = u64::MAX - 8;
 
-// The number at an index of a batch: from `b` on, in steps of `c`. The steps stay within a span, the
-// lower half of `d`, or within all numbers if that is 0.
+// The number at an index of a batch: from `b` on, in steps of `c`. The steps stay within a span,
+// the lower half of `d`, or within all numbers if that is 0.
 fn number_at(record: &Record, index: u64) -> u64 {
     let offset = index.wrapping_mul(record.c);
     let span = record.d & 0xffff_ffff;
@@ -22,7 +22,7 @@ fn number_at(record: &Record, index: u64) -> u64 {
     record.b.wrapping_add(offset)
 }
 
-// The keys of a batch, as many as are asked for.
+// The keys of a batch, `many` of them.
 fn batch_of<T: Sample>(alloc: Global, record: &Record, many: usize) -> Result<Vec<T>, AllocError>
     ensures { IfOk result (λ keys. vec_len keys ≡ many) }
 {
@@ -33,7 +33,7 @@ fn batch_of<T: Sample>(alloc: Global, record: &Record, many: usize) -> Result<Ve
     Ok(keys)
 }
 
-// The values of a batch: from the upper half of `d` on.
+// The values of a batch, from the upper half of `d` on.
 fn values_of(alloc: Global, record: &Record, many: usize) -> Result<Vec<u64>, AllocError>
     ensures { IfOk result (λ values. vec_len values ≡ many) }
 {
@@ -76,7 +76,7 @@ fn contains<K: Sample, A: SampleSummary<K>>(
     Ok(true)
 }
 
-// Reports how many keys were removed, and what was written.
+// Reports the number of keys that were removed, and what was written.
 fn remove<K: Sample, A: SampleSummary<K>>(
     alloc: Global,
     map: &mut BPlusTreeMap<K, u64, A>,
@@ -100,7 +100,7 @@ fn extend<K: Sample, A: SampleSummary<K>>(
     Ok(map.extend_from_columns(keys, &values).is_ok())
 }
 
-// Reports what was there before, also where nothing was put.
+// Reports the old values, also if the call inserts nothing.
 fn insert<K: Sample, A: SampleSummary<K>>(
     alloc: Global,
     map: &mut BPlusTreeMap<K, u64, A>,
@@ -117,7 +117,7 @@ fn insert<K: Sample, A: SampleSummary<K>>(
     Ok(is_done)
 }
 
-/// The calls of a map for the keys of a batch.
+/// Makes the calls of a map for the keys of a batch.
 pub fn call<K: Sample, A: SampleSummary<K>>(
     alloc: Global,
     map: &mut BPlusTreeMap<K, u64, A>,
@@ -138,7 +138,7 @@ pub fn call<K: Sample, A: SampleSummary<K>>(
     is_done.unwrap_or(false)
 }
 
-/// The calls of a set for the keys of a batch.
+/// Makes the calls of a set for the keys of a batch.
 pub fn call_set<K: Sample>(
     alloc: Global,
     set: &mut BPlusTreeSet<K>,
@@ -164,7 +164,7 @@ pub fn call_set<K: Sample>(
     many == keys.len()
 }
 
-/// The calls of a map with counts for many keys or indexes.
+/// Makes the calls of a map with counts for many keys or indices.
 pub fn call_counted<K: Sample>(
     alloc: Global,
     map: &BPlusTreeMap<K, u64, Count>,

@@ -6,9 +6,9 @@ use crate::words::{Report, Words};
 use bptree_tree::{InsertError, ReplaceError, SelectError};
 use std::alloc::AllocError;
 
-/// Reports an answer. Returns false if it is an error.
-pub fn report_if_ok<T: Report + Drop>(answer: Result<T, AllocError>, words: &mut Words) -> bool {
-    match answer {
+/// Reports the result of a call. Returns false if the result is an error.
+pub fn report_if_ok<T: Report + Drop>(outcome: Result<T, AllocError>, words: &mut Words) -> bool {
+    match outcome {
         Ok(it) => {
             it.report(words);
             true
@@ -29,7 +29,7 @@ pub fn report_back<K: Report + Drop, V: Report + Drop>(
     false
 }
 
-/// Reports whether a rank is that of a key that is there, and the rank.
+/// Reports whether the ranked key is present, and the rank.
 pub fn report_rank_of<K: Sample, A: SampleSummary<K>>(
     rank: Result<Result<A::Rank, A::Rank>, AllocError>,
     words: &mut Words,
@@ -45,12 +45,12 @@ pub fn report_rank_of<K: Sample, A: SampleSummary<K>>(
     true
 }
 
-/// Reports what an insertion returned, or the key and the value that came back in its error.
+/// Reports what an insertion returned, or the key and the value that its error returned.
 pub fn report_inserted<T: Report + Drop, K: Report + Drop, V: Report + Drop>(
-    answer: Result<T, InsertError<K, V>>,
+    outcome: Result<T, InsertError<K, V>>,
     words: &mut Words,
 ) -> bool {
-    match answer {
+    match outcome {
         Ok(it) => {
             it.report(words);
             true
@@ -59,13 +59,13 @@ pub fn report_inserted<T: Report + Drop, K: Report + Drop, V: Report + Drop>(
     }
 }
 
-/// Reports whether a key was replaced, and the key that comes back. Without memory it reports that
-/// key alone.
+/// Reports whether a key was replaced, and the key that the call returned. If an allocation failed,
+/// it reports that key alone.
 pub fn report_replaced<K: Report + Drop>(
-    answer: Result<K, ReplaceError<K>>,
+    outcome: Result<K, ReplaceError<K>>,
     words: &mut Words,
 ) -> bool {
-    match answer {
+    match outcome {
         Ok(old) => Some(old).report(words),
         Err(ReplaceError::Absent(key)) => (0u64, key).report(words),
         Err(ReplaceError::OutOfMemory(key)) => {
@@ -76,7 +76,7 @@ pub fn report_replaced<K: Report + Drop>(
     true
 }
 
-/// Writes the value of a key that is there, and reports the one before.
+/// Writes the value of a key that is present, and reports the old one.
 pub fn write<V: Report + Drop>(at: Option<&mut V>, value: V, words: &mut Words) -> bool {
     match at {
         Some(at) => {
@@ -89,7 +89,7 @@ pub fn write<V: Report + Drop>(at: Option<&mut V>, value: V, words: &mut Words) 
     true
 }
 
-/// Writes a value that was found, and reports the one before.
+/// Writes a value that was found, and reports the old one.
 pub fn write_found(found: Result<&mut u64, SelectError>, value: u64, words: &mut Words) -> bool {
     match found {
         Ok(at) => write(Some(at), value, words),

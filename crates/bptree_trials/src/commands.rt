@@ -6,8 +6,8 @@ use crate::subject::no_call;
 use crate::walk::bound;
 use crate::words::{Report, Words};
 use bptree_arguments::argument::{RankArgument, SearchArgument};
-use bptree_script::commands::{Command, Reply, run};
-use bptree_script::walk::End;
+use bptree_commands::commands::{Command, Reply, run};
+use bptree_commands::walk::End;
 use bptree_stores::node_stores::NodeStore;
 use bptree_tree::BPlusTree;
 use std::alloc::{AllocError, Global};
@@ -19,7 +19,7 @@ type Asking<K, A> = Command<K, u64, <A as SearchArgument<K>>::Query>;
 /// The commands that are to be run on the tree over a store.
 pub type Held<S> = Vec<Asking<<S as NodeStore>::K, <S as NodeStore>::Argument>>;
 
-// The ends that a word of bits names, the lowest first: the back where a bit is 1.
+// Returns the ends that a word of bits names, the lowest bit first. A bit of 1 is the back.
 fn ends(alloc: Global, bits: u64) -> Result<Vec<End>, AllocError> {
     let mut ends = Vec::new(alloc);
     for step in 0..bits >> 56 {
@@ -29,7 +29,7 @@ fn ends(alloc: Global, bits: u64) -> Result<Vec<End>, AllocError> {
     Ok(ends)
 }
 
-// The commands without a key and without a query.
+// Returns the command of a record that names neither a key nor a query.
 fn simple<K: Sample, A: SampleSummary<K>>(
     alloc: Global,
     record: &Record,
@@ -50,7 +50,7 @@ fn simple<K: Sample, A: SampleSummary<K>>(
     })
 }
 
-// The commands with a key.
+// Returns the command of a record that names a key.
 fn keyed<K: Sample, A: SampleSummary<K>>(
     alloc: Global,
     record: &Record,
@@ -66,7 +66,7 @@ fn keyed<K: Sample, A: SampleSummary<K>>(
     })
 }
 
-// The commands with a query.
+// Returns the command of a record that names a query.
 fn queried<K: Sample, A: SampleSummary<K>>(
     alloc: Global,
     record: &Record,
@@ -83,7 +83,7 @@ fn queried<K: Sample, A: SampleSummary<K>>(
     })
 }
 
-// The range between two keys.
+// Returns the command of a record for a range between two keys.
 fn range<K: Sample, A: SampleSummary<K>>(
     alloc: Global,
     record: &Record,
@@ -105,7 +105,7 @@ fn command<K: Sample, A: SampleSummary<K>>(
     }
 }
 
-// Reports a number for the kind of a reply, and what it has.
+// Reports a number for the kind of a reply, and the contents of the reply.
 fn report_reply<K: Sample, A: SampleSummary<K>>(
     reply: &Reply<K, u64, <A as RankArgument<K>>::Rank>,
     words: &mut Words,
@@ -165,7 +165,7 @@ where
     report_replies::<S::K, S::Argument>(&replies, words) && error.is_none()
 }
 
-/// Adds a command to those that are held, or runs them.
+/// Adds a command to the list of commands, or runs the list.
 pub fn call<S: NodeStore<V = u64>>(
     alloc: Global,
     tree: &mut BPlusTree<S>,

@@ -12,15 +12,15 @@ use std::cell::Cell;
 use std::cmp::Ordering;
 use std::rc::Rc;
 
-/// How many comparisons were made of the keys that share it, and how many of the values were
-/// dropped. Each key and each value that is left has one more pointer to it.
+/// The number of comparisons of the keys that share these counts, and the number of values that
+/// were dropped. Each live key and value holds one more pointer to the counts.
 #[derive(Drop)]
 pub struct Counts {
     pub compared: Cell<u64>,
     pub dropped: Cell<u64>,
 }
 
-/// Counts of nothing.
+/// Makes counts that are all 0.
 pub fn no_counts(alloc: Global) -> Result<Rc<Counts>, AllocError> {
     let counts = Counts {
         compared: Cell::new(0),
@@ -29,7 +29,8 @@ pub fn no_counts(alloc: Global) -> Result<Rc<Counts>, AllocError> {
     Ok(Rc::new(alloc, counts)?)
 }
 
-/// Adds to a reply how many values were dropped, and how many pointers to the counts there are.
+/// Adds to a reply the number of values that were dropped, and the number of pointers to the
+/// counts.
 pub fn report_left(counts: &Rc<Counts>, words: &mut Words) {
     words.add(counts.dropped.get());
     words.add(Rc::strong_count(counts) as u64);
@@ -48,7 +49,7 @@ pub trait Counted: Report + Drop {
     fn counted(counts: &Rc<Counts>, number: u64) -> Result<Self, AllocError>;
 }
 
-/// A key and a value.
+/// Makes a key and a value.
 pub fn counted_pair<K: Counted, V: Counted>(
     counts: &Rc<Counts>,
     number: u64,

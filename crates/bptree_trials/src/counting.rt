@@ -1,4 +1,4 @@
-//! Two trees whose keys count their comparisons and whose values count their drops; and a map and a
+//! Two trees whose keys count their comparisons and whose values count their drops, and a map and a
 //! set of one key.
 
 use crate::calls::{report_if_ok, report_inserted, write};
@@ -10,15 +10,15 @@ use crate::trees::{Both, exchange, new_tree, replace, take_pairs, tree_of, two_t
 use crate::words::{Report, Words};
 use bptree_arguments::argument::CloneArgument;
 use bptree_keys::key::Key;
-use bptree_maps::map::BPlusTreeMap;
-use bptree_sets::set::BPlusTreeSet;
+use bptree_map::map::BPlusTreeMap;
+use bptree_set::set::BPlusTreeSet;
 use bptree_stores::node_stores::{CloneStore, NodeStore};
 use bptree_tree::BPlusTree;
 use std::alloc::{AllocError, Global};
 use std::mem;
 use std::rc::Rc;
 
-/// Two trees, and what their keys and values count.
+/// Two trees, and the counts of their keys and values.
 #[derive(Drop)]
 pub struct Counting<S: NodeStore> {
     counts: Rc<Counts>,
@@ -47,7 +47,7 @@ where
     }
 }
 
-// Writes the value of a key, and reports the one before.
+// Writes the value of a key, and reports the old one.
 fn set<S: NodeStore>(trees: &mut Counting<S>, record: &Record, words: &mut Words) -> bool
 where
     S::K: Counted,
@@ -91,7 +91,8 @@ where
     true
 }
 
-// Pairs in runs of equal keys, whose values are ten times the key and then one more each.
+// Returns pairs in runs of equal keys, whose values are ten times the key, and one more with each
+// pair of a run.
 fn pairs_in_runs<K: Counted, V: Counted>(
     alloc: Global,
     counts: &Rc<Counts>,
@@ -108,7 +109,7 @@ fn pairs_in_runs<K: Counted, V: Counted>(
     Ok(pairs)
 }
 
-// A tree that is loaded at once, from runs of equal keys.
+// Returns a tree that is bulk loaded from runs of equal keys.
 fn loaded<S: NodeStore>(
     alloc: Global,
     counts: &Rc<Counts>,
@@ -122,7 +123,8 @@ where
     tree_of(pairs_in_runs(alloc, counts, record.a, run)?)
 }
 
-// Takes pairs of the other tree from both ends, and reports how many values were dropped meanwhile.
+// Takes pairs of the other tree from both ends, and reports the number of values that were dropped
+// meanwhile.
 fn drain_there<S: NodeStore>(
     alloc: Global,
     trees: &mut Counting<S>,
@@ -161,8 +163,8 @@ where
     }
 }
 
-// Puts pairs of one key into a map. After each reports the value that was there, the length, and what
-// is left.
+// Inserts pairs of one key into a map. After each insertion it reports the old value, the length,
+// and the counts of what is left.
 fn put_in_map<K: Key + Counted, V: Counted>(
     map: &mut BPlusTreeMap<K, V>,
     counts: &Rc<Counts>,
@@ -194,8 +196,8 @@ fn map_of_one<K: Key + Counted, V: Counted>(
     }
 }
 
-// Puts a key into a set again and again. After each time reports whether it is new, the length, and
-// what is left.
+// Inserts a key into a set again and again. After each insertion it reports whether the key is new,
+// the length, and the counts of what is left.
 fn put_in_set<K: Key + Counted>(
     set: &mut BPlusTreeSet<K>,
     counts: &Rc<Counts>,
@@ -227,7 +229,7 @@ fn set_of_one<K: Key + Counted>(
     }
 }
 
-// The counts, or what a map or a set of one key counts.
+// Reports the counts, or what a map or a set of one key counts.
 fn count<K: Key + Counted, V: Counted>(
     alloc: Global,
     counts: &Rc<Counts>,

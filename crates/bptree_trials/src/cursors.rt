@@ -26,7 +26,7 @@ fn hold<K: Sample>(
     true
 }
 
-// A clone of the held cursor.
+// Returns a clone of the held cursor.
 fn copied<K: Sample>(held: &Option<Cursor<K>>) -> Result<Option<Cursor<K>>, AllocError> {
     match held {
         Some(cursor) => match cursor.clone() {
@@ -37,7 +37,7 @@ fn copied<K: Sample>(held: &Option<Cursor<K>>) -> Result<Option<Cursor<K>>, Allo
     }
 }
 
-// Holds a clone of the held cursor in its place.
+// Replaces the held cursor by a clone of it.
 fn hold_copy<K: Sample>(held: &mut Option<Cursor<K>>, words: &mut Words) -> bool {
     let copy = copied(held);
     hold(held, copy, words)
@@ -76,7 +76,7 @@ fn hold_with<K: Sample, V: Report + Drop>(
     }
 }
 
-// The cursors at a key.
+// Makes the calls for the cursors at a key.
 fn at_key<S: NodeStore<V = u64>>(
     alloc: Global,
     tree: &BPlusTree<S>,
@@ -97,7 +97,7 @@ where
     }
 }
 
-// A neighbour of the held cursor.
+// Returns the cursor at a neighbour of the held cursor's key.
 fn neighbour<S: NodeStore<V = u64>>(
     tree: &BPlusTree<S>,
     held: &Option<Cursor<S::K>>,
@@ -113,7 +113,7 @@ where
     }
 }
 
-// The same with its value.
+// Returns the cursor at a neighbour of the held cursor's key, with the value there.
 fn neighbour_with<'t, S: NodeStore<V = u64>>(
     tree: &'t BPlusTree<S>,
     held: &Option<Cursor<S::K>>,
@@ -147,7 +147,7 @@ where
     }
 }
 
-// What the tree has at the key of the held cursor.
+// Reports what the tree has at the key of the held cursor.
 fn queries<S: NodeStore<V = u64>>(
     tree: &BPlusTree<S>,
     held: &Option<Cursor<S::K>>,
@@ -169,7 +169,7 @@ where
     true
 }
 
-/// The calls of cursors that need no query.
+/// Makes the calls of cursors that need no query.
 pub fn call<S: NodeStore<V = u64>>(
     alloc: Global,
     tree: &BPlusTree<S>,
@@ -196,7 +196,7 @@ where
     }
 }
 
-/// All calls of cursors.
+/// Makes all calls of cursors.
 pub fn call_queried<S: NodeStore<V = u64>>(
     alloc: Global,
     tree: &BPlusTree<S>,

@@ -1,4 +1,4 @@
-//! A store that remembers no leaf.
+//! A store that caches no leaf.
 
 use bptree_keys::compares::Compares;
 use bptree_keys::node_id::{InnerNodeId, LeafNodeId};
@@ -7,7 +7,7 @@ use bptree_nodes::leaf_node::LeafNode;
 use bptree_stores::node_stores::{CloneStore, NodeStore};
 use std::alloc::{AllocError, Global};
 
-/// Another store, but for its remembered leaf.
+/// A wrapper of another store, but without its cached leaf.
 #[derive(Drop)]
 pub struct Forgetful<S: NodeStore> {
     inner: S,
@@ -54,8 +54,8 @@ impl<S: NodeStore> NodeStore for Forgetful<S> {
     ) -> Result<InnerNodeId, Box<InnerNode<S::K, S::Argument>>>
         ensures was_free { IfOk result (λ id. (S.slots self.old.inner).inner id.0 ≡ Free) }
         ensures updates { IfOk result (AddsInner (S.slots self.old.inner) (S.slots self.new.inner) node.value) }
-        ensures refused { OnErr result (S.slots self.new.inner ≡ S.slots self.old.inner) }
-        ensures handed_back { IfErr result (λ back. back ≡ node) }
+        ensures unchanged { OnErr result (S.slots self.new.inner ≡ S.slots self.old.inner) }
+        ensures returned { IfErr result (λ back. back ≡ node) }
     {
         self.inner.add_inner(node)
     }

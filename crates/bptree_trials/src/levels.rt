@@ -1,15 +1,15 @@
-//! A summary that shows how a query and a rank go down a tree.
+//! A summary that shows how a query and a rank descend through a tree.
 ghost use Rattle.std.specs.Prelude.{⊤};
 
 use crate::record::Record;
 use crate::walk::pairs_of;
 use crate::words::{Report, Words};
 use bptree_arguments::argument::{Argument, RankArgument, SearchArgument};
-use bptree_maps::map::BPlusTreeMap;
+use bptree_map::map::BPlusTreeMap;
 use std::alloc::{AllocError, Global};
 
-/// A summary that says nothing of the keys. Every value serves for every list of keys, every slot
-/// for every query, and every rank for every key.
+/// A summary without information about the keys. Every value is allowed for every list of keys,
+/// every slot for every query, and every rank for every key.
 #[derive(Clone, Copy, Default, PartialEq, Debug)]
 pub struct Levels;
 
@@ -27,7 +27,7 @@ impl Argument<u64> for Levels {
     ghost default_is_summary = { λ _ _. tt };
 }
 
-// A query is a slot of a leaf. Each level above adds one to it.
+// A query is a slot of a leaf. Each level above the leaf adds one to it.
 impl SearchArgument<u64> for Levels {
     type Query = usize;
 
@@ -53,11 +53,11 @@ impl SearchArgument<u64> for Levels {
     }
 }
 
-// A rank is how many inner nodes were folded.
+// A rank is the number of inner nodes that were folded.
 impl RankArgument<u64> for Levels {
     type Rank = usize;
 
-    ghost stands_for = { λ _ _ _. ⊤ };
+    ghost represents = { λ _ _ _. ⊤ };
 
     ghost ranks = { λ _ _ _. ⊤ };
 
@@ -82,7 +82,7 @@ impl RankArgument<u64> for Levels {
     }
 }
 
-// Reports the pair that a query finds, and the rank of a key behind whether the key is there.
+// Reports the pair that a query finds, whether a key is present, and the key's rank.
 fn report_found<A: SearchArgument<u64, Query = usize> + RankArgument<u64, Rank = usize>>(
     map: &BPlusTreeMap<u64, u64, A>,
     record: &Record,
@@ -114,7 +114,7 @@ fn ask_map<A: SearchArgument<u64, Query = usize> + RankArgument<u64, Rank = usiz
     }
 }
 
-/// Runs a query and a rank on a map of that many pairs with such summaries.
+/// Runs a query and a rank on a map with these summaries.
 pub fn query_map(alloc: Global, record: &Record, words: &mut Words) -> bool {
     ask_map::<Levels>(alloc, record, words)
 }

@@ -1,9 +1,9 @@
 //! Makes calls of the library for another process, and replies with what they return.
 //!
-//! Standard input has records of 40 bytes. The first selects what the calls are made on, and each
+//! Standard input has records of 40 bytes. The first selects the subject of the calls, and each
 //! further one is a call. A reply has a word for its status, the number of its words, their digest,
-//! and the first 1024 words. The status is 0 if the call was made, and 1 if an
-//! allocation failed in it. A read must not end within a record.
+//! and the first 1024 words. The status is 0 if the call was made, and 1 if an allocation failed in
+//! it. A read must not end within a record.
 #![tactic(auto)]
 
 mod batches;
@@ -51,15 +51,15 @@ use crate::trees::{Plain, Trees};
 use crate::words::Words;
 use bptree_arguments::count::Count;
 use bptree_arguments::group::GroupCount;
+use bptree_commands::output::Output;
 use bptree_keys::key::Tuple2;
-use bptree_script::output::Output;
 use bptree_stores::node_store_vec::NodeStoreVec;
 use bptree_stores::node_stores::CloneStore;
 use std::alloc::Global;
 use std::io::{Read, Write};
 use std::process::ExitCode;
 
-// How many records are read at once, at most.
+// The greatest number of records that one read returns.
 const RECORDS: usize = 100;
 
 const BYTES: usize = RECORD * RECORDS;
@@ -81,7 +81,7 @@ fn send_reply<W: Write>(output: &mut Output<'_, W>, is_done: bool, words: &Words
 }
 
 // Makes the calls of the records, and sends the replies.
-fn answer<T: Subject, W: Write>(
+fn outcome<T: Subject, W: Write>(
     alloc: Global,
     subject: &mut T,
     words: &mut Words,
@@ -99,7 +99,7 @@ fn answer<T: Subject, W: Write>(
     is_sent && output.drain().is_ok() && output.flush().is_ok()
 }
 
-// Makes calls until the input ends. Returns whether all went well.
+// Makes calls until the input ends. Returns whether all reads and writes succeeded.
 fn serve<T: Subject, R: Read, W: Write>(alloc: Global, reader: &mut R, writer: &mut W) -> bool {
     let Ok(mut subject) = T::begin(alloc) else {
         return false;
@@ -111,7 +111,7 @@ fn serve<T: Subject, R: Read, W: Write>(alloc: Global, reader: &mut R, writer: &
         match reader.read(&mut bytes) {
             Ok(0) => return true,
             Ok(count) if count % RECORD == 0 => {
-                if !answer(
+                if !outcome(
                     alloc,
                     &mut subject,
                     &mut words,
@@ -127,8 +127,8 @@ fn serve<T: Subject, R: Read, W: Write>(alloc: Global, reader: &mut R, writer: &
     false
 }
 
-// Calls on a tree, a map or a set over a store. One function names the store, since each one that
-// does is expensive to prove.
+// Makes calls on a tree, a map or a set over a store. One function names the store, since each
+// function that does is expensive to prove.
 fn on_store<S: CloneStore<V = u64> + Made, R: Read, W: Write>(
     alloc: Global,
     form: u64,
@@ -179,7 +179,7 @@ fn on_maps<K: Sample, A: Special<K>, R: Read, W: Write>(
     serve::<Maps<K, A>, R, W>(alloc, reader, writer)
 }
 
-// Calls on the subject of a form, with keys of one type and summaries of another.
+// Makes calls on the subject of a form, with keys of one type and summaries of another.
 fn on_form<K: Sample, A: Special<K>, R: Read, W: Write>(
     alloc: Global,
     form: u64,
@@ -225,7 +225,7 @@ fn on_marked<R: Read, W: Write>(alloc: Global, reader: &mut R, writer: &mut W) -
 }
 
 // The form of each kind, and its keys: 0 for numbers, 1 for texts and 2 for pairs. Numbers that
-// count (3), couples (4) and marked keys (5) have one form alone.
+// count (3), couples (4) and marked keys (5) have only one form.
 const KINDS: [(u64, u64); 23] = [
     (0, 0),
     (0, 1),
@@ -252,7 +252,7 @@ const KINDS: [(u64, u64); 23] = [
     (8, 0),
 ];
 
-// Calls on the subject of a kind.
+// Makes calls on the subject of a kind.
 fn on_kind<R: Read, W: Write>(alloc: Global, kind: u64, reader: &mut R, writer: &mut W) -> bool {
     let Some((form, keys)) = KINDS.get(kind as usize) else {
         return false;
@@ -267,7 +267,7 @@ fn on_kind<R: Read, W: Write>(alloc: Global, kind: u64, reader: &mut R, writer: 
     }
 }
 
-// Reads the kind and makes the calls. Returns whether all went well.
+// Reads the kind and makes the calls. Returns whether all reads and writes succeeded.
 fn run<R: Read, W: Write>(alloc: Global, reader: &mut R, writer: &mut W) -> bool {
     let mut first = [0u8; RECORD];
     match reader.read(&mut first) {

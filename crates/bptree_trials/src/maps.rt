@@ -15,13 +15,13 @@ use crate::{batches, moving, nodes};
 use bptree_arguments::count::Count;
 use bptree_arguments::group::GroupCount;
 use bptree_arguments::group_size::ExtractGroupSize;
-use bptree_maps::map::{BPlusTreeMap, Iter};
+use bptree_map::map::{BPlusTreeMap, Iter};
 use std::alloc::{AllocError, Global};
 use std::cmp::Ordering;
 use std::mem;
 
-// Looks at the tree of a map. The calls on it all come here, since each function that names the store
-// of a map is dear to prove.
+// Reads the tree of a map. One function makes all such calls, since each function that names the
+// store of a map is expensive to prove.
 fn look<K: Sample, A: SampleSummary<K>>(
     map: &BPlusTreeMap<K, u64, A>,
     member: u64,
@@ -31,7 +31,7 @@ fn look<K: Sample, A: SampleSummary<K>>(
     nodes::call(map.tree(), member, number, words)
 }
 
-// Puts a key into the map, in place of one that equals it if that is asked.
+// Inserts a key into the map, or replaces an equal one if the record asks for that.
 fn put<K: Sample, A: SampleSummary<K>>(
     alloc: Global,
     map: &mut BPlusTreeMap<K, u64, A>,
@@ -48,7 +48,7 @@ fn put<K: Sample, A: SampleSummary<K>>(
     }
 }
 
-// The other changes that name a key.
+// Makes the other changes that name a key.
 fn change_at<K: Sample, A: SampleSummary<K>>(
     alloc: Global,
     map: &mut BPlusTreeMap<K, u64, A>,
@@ -65,7 +65,7 @@ fn change_at<K: Sample, A: SampleSummary<K>>(
     }
 }
 
-// The changes that need a query.
+// Makes the changes that need a query.
 fn change_found<K: Sample, A: SampleSummary<K>>(
     alloc: Global,
     map: &mut BPlusTreeMap<K, u64, A>,
@@ -104,7 +104,7 @@ fn change<K: Sample, A: SampleSummary<K>>(
     }
 }
 
-// The reads that name a key.
+// Makes the reads that name a key.
 fn read_at<K: Sample, A: SampleSummary<K>>(
     alloc: Global,
     map: &BPlusTreeMap<K, u64, A>,
@@ -182,8 +182,8 @@ impl<'a, K: Sample, A: SampleSummary<K>> Steps for Iter<'a, K, u64, A> {
     }
 }
 
-// Walks over pairs of a map. All calls that return such an iterator come here, since each function
-// that says what it does is expensive to prove.
+// Walks over pairs of a map. One function makes all calls that return such an iterator, since each
+// function that uses its contract is expensive to prove.
 fn walk_pairs<K: Sample, A: SampleSummary<K>>(
     pairs: Iter<'_, K, u64, A>,
     record: &Record,
@@ -204,7 +204,7 @@ fn walk_if<K: Sample, A: SampleSummary<K>>(
     }
 }
 
-// The pairs from a key on, by the range type that has such ends.
+// Returns the pairs from a key on, by the range type that has such ends.
 fn range_from<K: Sample, A: SampleSummary<K>>(
     map: &BPlusTreeMap<K, u64, A>,
     lo: K,
@@ -223,7 +223,7 @@ fn range_from<K: Sample, A: SampleSummary<K>>(
     }
 }
 
-// The pairs up to a key, by the range type that has such an end.
+// Returns the pairs up to a key, by the range type that has such an end.
 fn range_upto<K: Sample, A: SampleSummary<K>>(
     map: &BPlusTreeMap<K, u64, A>,
     hi: Option<K>,
@@ -241,7 +241,7 @@ fn range_upto<K: Sample, A: SampleSummary<K>>(
     }
 }
 
-// The pairs in a range of keys, by the range type that has such ends.
+// Returns the pairs in a range of keys, by the range type that has such ends.
 fn range_of<K: Sample, A: SampleSummary<K>>(
     map: &BPlusTreeMap<K, u64, A>,
     lo: Option<K>,
@@ -254,7 +254,7 @@ fn range_of<K: Sample, A: SampleSummary<K>>(
     }
 }
 
-// The pairs in a range of keys, which is given as such.
+// Walks over the pairs in a range of keys that is given as a range.
 fn part_within<K: Sample, A: SampleSummary<K>>(
     alloc: Global,
     map: &BPlusTreeMap<K, u64, A>,
@@ -267,8 +267,8 @@ fn part_within<K: Sample, A: SampleSummary<K>>(
     }
 }
 
-// The parts between the bounds of a record. If the lower bound is included, half of the records use
-// a range of keys, and the others two bounds.
+// Makes the calls for the part between the bounds of a record. If the lower bound is included, half
+// of the records use a range of keys, and the others two bounds.
 fn part_between<K: Sample, A: SampleSummary<K>>(
     alloc: Global,
     map: &BPlusTreeMap<K, u64, A>,
@@ -376,7 +376,7 @@ fn drain_there<K: Sample, A: SampleSummary<K>>(
     }
 }
 
-/// Reports how two things compare: 0 for less, 1 for equal and 2 for greater.
+/// Reports the order of two things: 0 for less, 1 for equal and 2 for greater.
 pub fn report_order(order: Ordering, words: &mut Words) {
     words.add(match order {
         Ordering::Less => 0,
@@ -411,7 +411,7 @@ fn whole<K: Sample, A: SampleSummary<K>>(
     }
 }
 
-// The cursors that need a key.
+// Makes the calls of cursors that need a key.
 fn cursor_at_key<K: Sample, A: SampleSummary<K>>(
     alloc: Global,
     map: &BPlusTreeMap<K, u64, A>,
@@ -480,7 +480,7 @@ impl<K: Sample, A: Special<K>> Subject for Maps<K, A> {
     }
 }
 
-// The calls by a key, of a map with counts.
+// Makes the calls by a key, of a map with counts.
 fn index_of<K: Sample>(
     alloc: Global,
     map: &BPlusTreeMap<K, u64, Count>,
@@ -491,7 +491,7 @@ fn index_of<K: Sample>(
         return false;
     };
     if record.member() == 1 {
-        map.place_of(&key).report(words);
+        map.get_index_of(&key).report(words);
         return true;
     }
     match map.page_of(&key, (record.b as usize).max(1)) {
@@ -520,15 +520,15 @@ fn set_at<K: Sample>(
     record: &Record,
     words: &mut Words,
 ) -> bool {
-    write_found(map.get_mut_at(record.a as usize), record.b, words)
+    write_found(map.get_index_mut(record.a as usize), record.b, words)
 }
 
-fn get_at<K: Sample>(
+fn get_index<K: Sample>(
     map: &BPlusTreeMap<K, u64, Count>,
     record: &Record,
     words: &mut Words,
 ) -> bool {
-    map.get_at(record.a as usize).report(words);
+    map.get_index(record.a as usize).report(words);
     true
 }
 
@@ -551,9 +551,9 @@ impl<K: Sample> Special<K> for Count {
         match record.member() {
             0 => range_len(alloc, map, record, words),
             1 | 7 => index_of(alloc, map, record, words),
-            2 => get_at(map, record, words),
+            2 => get_index(map, record, words),
             3 => set_at(map, record, words),
-            4 => report_if_ok(map.remove_at(record.a as usize), words),
+            4 => report_if_ok(map.remove_index(record.a as usize), words),
             5 => report_page(map, record, words),
             6 => {
                 map.pages((record.a as usize).max(1)).report(words);
@@ -566,7 +566,7 @@ impl<K: Sample> Special<K> for Count {
     }
 }
 
-// The size of a group, as a visitor finds it.
+// Reports the size of a group, as a visitor finds it.
 fn group_size<K: Sample, G: Group<K>>(
     map: &BPlusTreeMap<K, u64, GroupCount<G>>,
     group: G,
@@ -581,7 +581,7 @@ fn group_size<K: Sample, G: Group<K>>(
     }
 }
 
-// The parts of a group.
+// Walks over the pairs of a group, or over a part or a page of them.
 fn group_part<K: Sample, G: Group<K>>(
     map: &BPlusTreeMap<K, u64, GroupCount<G>>,
     group: &G,

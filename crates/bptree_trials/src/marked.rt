@@ -6,7 +6,7 @@ use crate::words::{Report, Words};
 use bptree_keys::key::Key;
 use std::alloc::{AllocError, Global};
 
-/// A key that is a number. Its letter takes no part in the order.
+/// A key that is a number. Its letter does not affect the order.
 #[derive(Debug, Drop)]
 #[derive_where(Clone, PartialEq, Eq, PartialOrd, Ord)]
 pub struct Marked {

@@ -7,7 +7,7 @@ use crate::samples::{Sample, SampleSummary};
 use crate::subject::no_call;
 use crate::walk::{bounds, pairs_of, report_all};
 use crate::words::{Report, Words};
-use bptree_maps::map::{BPlusTreeMap, RetainError};
+use bptree_map::map::{BPlusTreeMap, RetainError};
 use std::alloc::{AllocError, Global};
 
 fn extend<K: Sample, A: SampleSummary<K>>(
@@ -22,7 +22,7 @@ fn extend<K: Sample, A: SampleSummary<K>>(
     report_inserted(map.extend(pairs), words)
 }
 
-// Puts all pairs of a vector or a slice, or none.
+// Inserts all pairs of a vector or a slice, or none of them.
 fn extend_by_all<K: Sample, A: SampleSummary<K>>(
     alloc: Global,
     map: &mut BPlusTreeMap<K, u64, A>,
@@ -43,8 +43,8 @@ fn append<K: Sample, A: SampleSummary<K>>(maps: &mut Maps<K, A>) -> bool {
 }
 
 /// Stores the pairs or keys that were split off.
-pub fn keep_split<M: Drop>(there: &mut M, answer: Result<M, AllocError>) -> bool {
-    match answer {
+pub fn keep_split<M: Drop>(there: &mut M, outcome: Result<M, AllocError>) -> bool {
+    match outcome {
         Ok(gone) => {
             *there = gone;
             true
@@ -61,20 +61,20 @@ fn split_off<K: Sample, A: SampleSummary<K>>(
     let Ok(key) = K::sample(alloc, record.a) else {
         return false;
     };
-    let answer = maps.here.split_off(&key);
-    keep_split(&mut maps.there, answer)
+    let outcome = maps.here.split_off(&key);
+    keep_split(&mut maps.there, outcome)
 }
 
 /// Reports why the predicate was not called on all pairs or keys.
 pub fn report_retained<X: Report + Drop, I: DoubleEndedIterator + ExactSizeIterator + Drop>(
-    answer: Result<(), RetainError<X, I>>,
+    outcome: Result<(), RetainError<X, I>>,
     words: &mut Words,
 ) -> bool
 where
     I::Item: Report + Drop,
     requires { (x : I) → I.can_next x × I.can_next_back x }
 {
-    match answer {
+    match outcome {
         Ok(()) => true,
         Err(RetainError::NotMade) => {
             words.add(0);
@@ -95,11 +95,11 @@ fn retain<K: Sample, A: SampleSummary<K>>(
     words: &mut Words,
 ) -> bool {
     let (modulus, residue) = (record.a, record.b);
-    let answer = map.retain(|_key: &K, value: &mut u64| {
+    let outcome = map.retain(|_key: &K, value: &mut u64| {
         let value = *value;
         modulus == 0 || value % modulus != residue
     });
-    report_retained(answer, words)
+    report_retained(outcome, words)
 }
 
 fn add_to_each<K: Sample, A: SampleSummary<K>>(
@@ -112,7 +112,7 @@ fn add_to_each<K: Sample, A: SampleSummary<K>>(
     true
 }
 
-// The calls on the pairs between two keys.
+// Makes the calls on the pairs between two keys.
 fn between<K: Sample, A: SampleSummary<K>>(
     alloc: Global,
     map: &mut BPlusTreeMap<K, u64, A>,
@@ -139,12 +139,12 @@ fn upsert<K: Sample, A: SampleSummary<K>>(
     words: &mut Words,
 ) -> bool {
     let more = record.c;
-    let answer = map.upsert_with(
+    let outcome = map.upsert_with(
         key,
         record.b,
         |value: &mut u64| *value = value.wrapping_add(more),
     );
-    report_inserted(answer, words)
+    report_inserted(outcome, words)
 }
 
 fn get_or_insert<K: Sample, A: SampleSummary<K>>(
@@ -164,7 +164,7 @@ fn get_or_insert<K: Sample, A: SampleSummary<K>>(
     }
 }
 
-// The changes of one pair that depend on whether its key is there.
+// Makes the changes of one pair that depend on whether its key is present.
 fn entry<K: Sample, A: SampleSummary<K>>(
     alloc: Global,
     map: &mut BPlusTreeMap<K, u64, A>,
@@ -181,7 +181,7 @@ fn entry<K: Sample, A: SampleSummary<K>>(
     }
 }
 
-/// The calls that change many pairs, or a pair that may not be there.
+/// Makes the calls that change many pairs, or a pair that may be absent.
 pub fn call<K: Sample, A: SampleSummary<K>>(
     alloc: Global,
     maps: &mut Maps<K, A>,

@@ -1,4 +1,4 @@
-//! The nodes of a tree, and what holds of its store.
+//! The nodes of a tree, and the state of its store.
 
 use crate::subject::no_call;
 use crate::words::{Report, Words};
@@ -8,7 +8,7 @@ use bptree_nodes::leaf_node::LeafNode;
 use bptree_stores::node_stores::{CloneStore, NodeStore};
 use bptree_tree::{BPlusTree, Statistic};
 
-/// The number of node numbers of each kind that are looked at.
+/// The number of node ids of each kind that are read.
 pub const NUMBERS: usize = 4_400;
 
 fn report_number(id: NodeId, words: &mut Words) {
@@ -24,7 +24,7 @@ impl Report for LeafNodeId {
     }
 }
 
-/// Reports an inner node: its keys, its summaries and the numbers of its children.
+/// Reports an inner node: its keys, its summaries and the ids of its children.
 pub fn report_inner<K: Report + Drop, A: Report + Drop>(node: &InnerNode<K, A>, words: &mut Words) {
     node.len().report(words);
     for key in node.keys() {
@@ -36,8 +36,8 @@ pub fn report_inner<K: Report + Drop, A: Report + Drop>(node: &InnerNode<K, A>, 
     if node.len() == 0 {
         return;
     }
-    for place in 0..node.len() {
-        report_number(node.child_id(place), words);
+    for index in 0..node.len() {
+        report_number(node.child_id(index), words);
     }
     report_number(node.child_id(node.len()), words);
 }
@@ -58,7 +58,7 @@ pub fn report_leaf<K: Report + Ord + Drop, V: Report + Drop>(
     leaf.next().report(words);
 }
 
-/// Reports the nodes of a store under the first numbers.
+/// Reports the nodes of a store with the first `NUMBERS` ids.
 pub fn report_store<S: NodeStore>(store: &S, words: &mut Words)
 where
     S::K: Report,
@@ -77,7 +77,7 @@ where
     }
 }
 
-// The digest of the nodes of a store.
+// Returns the digest of the nodes of a store.
 fn digest_of<S: NodeStore>(store: &S) -> u64
 where
     S::K: Report,
@@ -115,7 +115,7 @@ where
     report_store(tree.node_store(), words);
 }
 
-/// Reports the height of a tree, the numbers of its nodes and its statistic.
+/// Reports the height of a tree, the number of its nodes and its statistic.
 pub fn report_shape<S: NodeStore>(tree: &BPlusTree<S>, words: &mut Words) {
     let store = tree.node_store();
     let mut leaves: u64 = 0;
@@ -132,7 +132,7 @@ pub fn report_shape<S: NodeStore>(tree: &BPlusTree<S>, words: &mut Words) {
     report_statistic(tree.statistic(), words);
 }
 
-// Whether a store is empty once its nodes are taken out.
+// Whether a store is empty after its nodes are taken out.
 fn holds_none<S: NodeStore>(mut store: S) -> bool {
     for number in 0..NUMBERS {
         let id = InnerNodeId::from_usize(number);
@@ -149,7 +149,7 @@ fn holds_none<S: NodeStore>(mut store: S) -> bool {
     store.is_empty()
 }
 
-/// Whether a store holds no number without a node, as a clone shows.
+/// Whether a store reserves no id without a node, as a clone shows.
 pub fn is_tidy<S: CloneStore>(store: &S) -> bool
 where
     S::V: Clone,
@@ -204,7 +204,7 @@ where
 /// The call that reports the height alone.
 pub const HEIGHT: u64 = 6;
 
-/// The calls that look at nodes, and at the node of a number.
+/// Makes the calls that read nodes, and the node with an id.
 pub fn call<S: CloneStore>(tree: &BPlusTree<S>, member: u64, number: u64, words: &mut Words) -> bool
 where
     S::K: Report,

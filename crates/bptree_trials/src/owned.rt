@@ -1,4 +1,4 @@
-//! Keys and values that allocate, so that a leak or a second drop of one is seen from outside.
+//! Keys and values that allocate, so that a leak or a second drop is seen from outside.
 
 use crate::calls::{report_if_ok, report_inserted};
 use crate::levels;
@@ -8,19 +8,19 @@ use crate::samples::Sample;
 use crate::subject::{Subject, no_call};
 use crate::walk::keys_of;
 use crate::words::{Report, Words};
-use bptree_loading::loading::in_load_order;
-use bptree_maps::map::BPlusTreeMap;
-use bptree_sets::set::BPlusTreeSet;
+use bptree_load_plan::loading::in_load_order;
+use bptree_map::map::BPlusTreeMap;
+use bptree_set::set::BPlusTreeSet;
 use bptree_stores::node_store_vec::NodeStoreVec;
 use bptree_stores::node_stores::NodeStore;
 use bptree_tree::BPlusTree;
 use std::alloc::{AllocError, Global};
 
-/// Nothing. Each call makes and drops what it is about.
+/// Nothing. Each call makes and drops its own subject.
 #[derive(Drop)]
 pub struct Owned;
 
-// Pairs with the keys of the turns, divided by three or modulo 100.
+// Returns pairs with the keys of the turns, divided by three or modulo 100.
 fn pairs_of(
     alloc: Global,
     many: u64,
@@ -35,7 +35,7 @@ fn pairs_of(
     Ok(pairs)
 }
 
-// The number of pairs of a tree that is loaded. Pairs that are not in order are not loaded.
+// Loads a tree and returns its number of pairs. Pairs that are not in order are not loaded.
 fn load<S: NodeStore>(pairs: Vec<(S::K, S::V)>) -> Result<usize, AllocError> {
     if !in_load_order(&pairs) {
         return Ok(0);

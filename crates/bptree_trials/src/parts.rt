@@ -16,11 +16,11 @@ use bptree_stores::node_store_vec::NodeStoreVec;
 use bptree_stores::node_stores::{CloneStore, NodeStore, new_empty_leaf};
 use std::alloc::{AllocError, Global};
 
-/// The two ways to make a store by its own functions.
+/// The two constructors of a store.
 pub trait Made: Drop + Sized {
     fn made(alloc: Global) -> Self;
 
-    /// One with room for so many numbers of each kind.
+    /// Makes a store with capacity for this number of nodes of each kind.
     fn with_room(alloc: Global, many: usize) -> Result<Self, AllocError>;
 }
 
@@ -40,7 +40,7 @@ pub struct Parts<S: NodeStore> {
     store: S,
 }
 
-// Reports whether no leaf has a number that is reserved. Then releases it.
+// Reserves a leaf id and reports whether no leaf has it. Then releases the id.
 fn reserve_leaf<S: NodeStore>(store: &mut S, words: &mut Words) -> bool {
     let Ok(id) = store.reserve_leaf() else {
         return false;
@@ -50,7 +50,7 @@ fn reserve_leaf<S: NodeStore>(store: &mut S, words: &mut Words) -> bool {
     true
 }
 
-// The same of an inner node's number.
+// Reserves an inner node's id and reports whether no node has it. Then releases the id.
 fn reserve_inner<S: NodeStore>(store: &mut S, words: &mut Words) -> bool {
     let Ok(id) = store.reserve_inner() else {
         return false;
@@ -60,7 +60,7 @@ fn reserve_inner<S: NodeStore>(store: &mut S, words: &mut Words) -> bool {
     true
 }
 
-// Reserves a number of each kind. Reports whether no node has either.
+// Reserves an id of each kind. Reports whether no node has either id.
 fn reserve_both<S: NodeStore>(store: &mut S, words: &mut Words) -> bool {
     let Ok(leaf) = store.reserve_leaf() else {
         return false;
@@ -80,7 +80,8 @@ fn add_leaf<S: NodeStore>(store: &mut S, words: &mut Words) -> bool {
     true
 }
 
-// Adds an empty inner node. If that fails, reports the length of the node that came back.
+// Adds an empty inner node. If this fails, it reports the length of the node that the error
+// returned.
 fn add_inner<S: NodeStore>(alloc: Global, store: &mut S, words: &mut Words) -> bool {
     let Ok(node) = InnerNode::empty(alloc) else {
         return false;
@@ -131,7 +132,7 @@ impl<K: Report + Ord + Drop, V: Report + Drop> Report for LeafNode<K, V> {
     }
 }
 
-// A leaf with two keys and both links.
+// Returns a leaf with two keys and both links.
 fn leaf_of<K: Sample>(alloc: Global) -> Result<Box<LeafNode<K, u64>>, AllocError>
     ensures { IfOk result (λ leaf. 0 < length leaf.value.pairs) }
 {
@@ -151,7 +152,7 @@ fn copy_leaf<K: Sample>(leaf: &LeafNode<K, u64>, words: &mut Words) -> bool
     report_if_ok(leaf.clone(), words) && report_if_ok(leaf.key_range(), words)
 }
 
-// An inner node of what three vectors give.
+// Returns an inner node of the items that three vectors yield.
 fn inner_of_given<K: Sample>(
     alloc: Global,
     keys: Vec<K>,
@@ -165,7 +166,7 @@ fn inner_of_given<K: Sample>(
     InnerNode::new_from_iter(alloc, keys, children, arguments)
 }
 
-// An inner node with one key, of vectors or of what they give.
+// Returns an inner node with one key, of vectors or of the items that they yield.
 fn inner_of<K: Sample>(
     alloc: Global,
     is_given: bool,

@@ -1,15 +1,15 @@
-//! The order of each type of key, and how each reply to a command prints.
+//! The order of each type of key, and the text that each reply to a command prints.
 
 use crate::maps::report_order;
 use crate::marked::Marked;
 use crate::record::Record;
 use crate::samples::Sample;
 use crate::words::{Report, Words};
+use bptree_commands::commands::Reply;
 use bptree_keys::key::{Key, Tuple2};
-use bptree_script::commands::Reply;
 use std::alloc::{AllocError, Global};
 
-// Compares two keys in both directions, and a clone with its key. Reports what came of each.
+// Compares two keys in both directions, and a clone with its key. Reports the three orders.
 fn report_ordered<K: Key>(small: K, great: K, words: &mut Words) -> bool {
     report_order(small.cmp(&great), words);
     report_order(great.cmp(&small), words);
@@ -22,7 +22,7 @@ fn report_ordered<K: Key>(small: K, great: K, words: &mut Words) -> bool {
     }
 }
 
-// Two texts.
+// Compares two texts.
 fn report_texts(alloc: Global, words: &mut Words) -> bool {
     let Ok(hello) = String::from_str(alloc, "hello") else {
         return false;
@@ -56,7 +56,7 @@ pub fn report_orders(alloc: Global, words: &mut Words) -> bool {
 
 type Printed = Reply<Marked, u64, usize>;
 
-// The pair of a record, if it has one.
+// Returns the pair of a record, if it has one.
 fn pair_of(alloc: Global, record: &Record) -> Result<Option<(Marked, u64)>, AllocError> {
     if record.b == 0 {
         return Ok(None);
@@ -64,7 +64,7 @@ fn pair_of(alloc: Global, record: &Record) -> Result<Option<(Marked, u64)>, Allo
     Ok(Some((Marked::sample(alloc, record.c)?, record.d)))
 }
 
-// The reply of a kind, with the value, the pair or the number of a record.
+// Returns the reply of a kind, with the value, the pair or the number of a record.
 fn reply_of(alloc: Global, record: &Record) -> Result<Printed, AllocError> {
     let pair = pair_of(alloc, record)?;
     let value = if record.b == 0 { None } else { Some(record.d) };

@@ -1,6 +1,6 @@
 //! A call, as a caller sends it.
 
-/// The bytes of a record.
+/// The number of bytes of a record.
 pub const RECORD: usize = 40;
 
 /// A call and its arguments. The upper bits of `call` select the family, and the lower four the
@@ -14,11 +14,11 @@ pub struct Record {
     pub d: u64,
 }
 
-// The number in the eight bytes from a place on.
-fn number_at(bytes: &[u8; RECORD], place: usize) -> u64 {
+// Returns the number in the eight bytes from an index on.
+fn number_at(bytes: &[u8; RECORD], index: usize) -> u64 {
     let mut number: u64 = 0;
     for offset in 0..8 {
-        let byte = bytes.get(place.wrapping_add(offset)).copied().unwrap_or(0);
+        let byte = bytes.get(index.wrapping_add(offset)).copied().unwrap_or(0);
         number |= (byte as u64) << (8 * offset);
     }
     number

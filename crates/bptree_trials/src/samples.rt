@@ -30,7 +30,7 @@ impl Sample for String {
     }
 }
 
-// The number that the digits write. A text that is no sample may have the number of one.
+// The number that the digits write. A text that is no sample may have the same number as a sample.
 impl Report for String {
     fn report(&self, words: &mut Words) {
         let mut number: u64 = 0;
@@ -60,7 +60,7 @@ impl Group<(String, u64)> for Tuple2<String> {
     }
 }
 
-// The group of a number: each has 170 numbers, and the last group has all others.
+// Returns the group of a number. Each group has 170 numbers, and the last group has all others.
 fn group_of(number: u64) -> u64 {
     (number / 170).min(25)
 }
@@ -107,7 +107,7 @@ pub trait SampleSummary<K: Sample>: SearchArgument<K>
     + RankArgument<K>
     + CloneArgument<K>
     + Report {
-    /// The query for the key at an index in the group of a number. Where there are no groups, the
+    /// Returns the query for the key at an index in the group of a number. Without groups the
     /// number is not used.
     fn query(alloc: Global, number: u64, index: u64) -> Result<Self::Query, AllocError>;
 

@@ -1,4 +1,4 @@
-//! A visitor that says the same at each inner node.
+//! A visitor that has the same result at each inner node.
 ghost use Rattle.std.specs.Prelude.{⊤};
 
 use bptree_arguments::argument::Argument;
@@ -6,7 +6,7 @@ use bptree_arguments::visit::{DescendVisit, DescendVisitResult};
 use bptree_keys::key::Key;
 use std::alloc::AllocError;
 
-/// What a visitor says at an inner node.
+/// The result of a visitor at an inner node.
 #[derive(Clone, Copy, Drop)]
 pub enum Say {
     Child(usize),
@@ -14,8 +14,9 @@ pub enum Say {
     Number(usize),
 }
 
-/// Says the same at each inner node, and counts these nodes. It returns the number that it says, or
-/// at a leaf how many keys that has, and then the count. Every answer is allowed.
+/// A visitor that has the same result at each inner node, and counts these nodes. A visit returns
+/// the number of the result, or at a leaf the number of its keys, and then the count. Every result
+/// is allowed.
 #[derive(Drop)]
 pub struct Says {
     say: Say,
@@ -23,7 +24,7 @@ pub struct Says {
 }
 
 impl Says {
-    /// A visitor that has met no node.
+    /// Makes a visitor that has visited no node.
     pub fn new(say: Say) -> Says {
         Says { say, inners: 0 }
     }
@@ -32,7 +33,7 @@ impl Says {
 impl<K: Key, V, A: Argument<K>> DescendVisit<K, V, A> for Says {
     type Result = (usize, usize);
 
-    ghost answers = { λ _ _ _. ⊤ };
+    ghost outcomes = { λ _ _ _. ⊤ };
 
     fn visit_inner(
         &mut self,
@@ -41,7 +42,7 @@ impl<K: Key, V, A: Argument<K>> DescendVisit<K, V, A> for Says {
     ) -> Result<DescendVisitResult<(usize, usize)>, AllocError> {
         self.inners = self.inners.saturating_add(1);
         Ok(match self.say {
-            Say::Child(place) => DescendVisitResult::GoDown(place),
+            Say::Child(index) => DescendVisitResult::GoDown(index),
             Say::Nothing => DescendVisitResult::Cancel,
             Say::Number(number) => DescendVisitResult::Complete((number, self.inners)),
         })

@@ -12,7 +12,7 @@ use crate::trees::{bound_of, replace};
 use crate::walk::{bounds, keys_of};
 use crate::words::{Report, Words};
 use crate::{batches, nodes};
-use bptree_sets::set::BPlusTreeSet;
+use bptree_set::set::BPlusTreeSet;
 use std::alloc::{AllocError, Global};
 use std::mem;
 
@@ -25,7 +25,7 @@ pub struct Sets<K: Sample> {
     there: Set<K>,
 }
 
-// The changes that name a key.
+// Makes the changes that name a key.
 fn change_at<K: Sample>(
     alloc: Global,
     set: &mut Set<K>,
@@ -53,7 +53,7 @@ fn change<K: Sample>(alloc: Global, set: &mut Set<K>, record: &Record, words: &m
     }
 }
 
-// The reads that name a key.
+// Makes the reads that name a key.
 fn read_at<K: Sample>(alloc: Global, set: &Set<K>, record: &Record, words: &mut Words) -> bool {
     let Ok(key) = K::sample(alloc, record.a) else {
         return false;
@@ -76,7 +76,7 @@ fn read<K: Sample>(alloc: Global, set: &Set<K>, record: &Record, words: &mut Wor
     true
 }
 
-// The keys in a range of keys, which is given as such.
+// Walks over the keys in a range of keys that is given as a range.
 fn part_within<K: Sample>(alloc: Global, set: &Set<K>, record: &Record, words: &mut Words) -> bool {
     let Ok((lo, hi)) = bounds::<K>(alloc, record) else {
         return false;
@@ -91,8 +91,8 @@ fn part_within<K: Sample>(alloc: Global, set: &Set<K>, record: &Record, words: &
     }
 }
 
-// The parts between the bounds of a record. If there are two and the lower is included, half of the
-// records use a range of keys, and the others two bounds.
+// Makes the calls for the part between the bounds of a record. If there are two bounds and the
+// lower is included, half of the records use a range of keys, and the others two bounds.
 fn part_between<K: Sample>(
     alloc: Global,
     set: &Set<K>,
@@ -125,7 +125,7 @@ fn gathered<K: Sample>(alloc: Global, record: &Record) -> Result<Set<K>, AllocEr
     BPlusTreeSet::from_iter(alloc, keys_of(alloc, 0, record.a, record.b)?)
 }
 
-// Takes a set apart by its owned iterator. An empty set stays in its place.
+// Takes a set apart by its owned iterator, and leaves an empty set.
 fn drain_set<K: Sample>(
     alloc: Global,
     set: &mut Set<K>,
@@ -166,7 +166,7 @@ fn extend<K: Sample>(alloc: Global, set: &mut Set<K>, record: &Record, words: &m
     report_inserted(set.extend(keys), words)
 }
 
-// Puts all keys of a vector or a slice, or none.
+// Inserts all keys of a vector or a slice, or none of them.
 fn extend_by_all<K: Sample>(alloc: Global, set: &mut Set<K>, record: &Record) -> bool {
     let Ok(keys) = keys_of::<K>(alloc, record.a, record.b, record.c) else {
         return false;
@@ -186,11 +186,11 @@ fn split_off<K: Sample>(alloc: Global, sets: &mut Sets<K>, record: &Record) -> b
     let Ok(key) = K::sample(alloc, record.a) else {
         return false;
     };
-    let answer = sets.here.split_off(&key);
-    keep_split(&mut sets.there, answer)
+    let outcome = sets.here.split_off(&key);
+    keep_split(&mut sets.there, outcome)
 }
 
-// The first word of a key.
+// Returns the first word of a key.
 fn number_of<K: Report>(key: &K) -> u64 {
     let mut words = Words::new();
     key.report(&mut words);
@@ -199,8 +199,8 @@ fn number_of<K: Report>(key: &K) -> u64 {
 
 fn retain<K: Sample>(set: &mut Set<K>, record: &Record, words: &mut Words) -> bool {
     let (modulus, residue) = (record.a, record.b);
-    let answer = set.retain(|key: &K| modulus == 0 || number_of(key) % modulus != residue);
-    report_retained(answer, words)
+    let outcome = set.retain(|key: &K| modulus == 0 || number_of(key) % modulus != residue);
+    report_retained(outcome, words)
 }
 
 fn remove_range<K: Sample>(
@@ -215,7 +215,7 @@ fn remove_range<K: Sample>(
     report_if_ok(set.remove_range(lo.as_ref(), hi.as_ref()), words)
 }
 
-// The calls that move or remove many keys.
+// Makes the calls that move or remove many keys.
 fn move_keys<K: Sample>(
     alloc: Global,
     sets: &mut Sets<K>,
@@ -233,7 +233,7 @@ fn move_keys<K: Sample>(
     }
 }
 
-// Reports the keys that an iterator gives. Returns how many there are.
+// Reports the keys that an iterator yields. Returns their number.
 fn report_keys<'a, K: Report + 'a, I: Iterator<Item = &'a K> + Drop>(
     keys: I,
     words: &mut Words,
@@ -249,8 +249,8 @@ fn report_keys<'a, K: Report + 'a, I: Iterator<Item = &'a K> + Drop>(
     count
 }
 
-// Takes up to `many` keys, and reports how many there were. Then reports the size hint, and whether
-// there is one more key.
+// Takes up to `many` keys, and reports their number. Then reports the size hint, and whether there
+// is one more key.
 fn report_end<'a, K: Report + 'a, I: Iterator<Item = &'a K> + Drop>(
     keys: I,
     many: u64,
@@ -269,8 +269,8 @@ fn report_end<'a, K: Report + 'a, I: Iterator<Item = &'a K> + Drop>(
     keys.next().is_some().report(words);
 }
 
-// Reports the size hint of an iterator and its keys. A clone, made after the first key, must have as
-// many more.
+// Reports the size hint of an iterator and its keys. A clone, made after the first key, must have
+// as many keys left.
 fn report_joined<'a, K: Report + 'a, I: Iterator<Item = &'a K> + Clone + Drop>(
     keys: I,
     words: &mut Words,
@@ -298,7 +298,7 @@ fn relate<K: Sample>(sets: &Sets<K>, words: &mut Words) -> bool {
     true
 }
 
-// The calls on both sets.
+// Makes the calls on both sets.
 fn join<K: Sample>(sets: &Sets<K>, member: u64, words: &mut Words) -> bool {
     let (here, there) = (&sets.here, &sets.there);
     match member {

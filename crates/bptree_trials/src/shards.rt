@@ -8,14 +8,14 @@ use crate::trees::replace;
 use crate::walk::bounds;
 use crate::words::{Report, Words};
 use bptree_arguments::count::Count;
-use bptree_maps::map::BPlusTreeMap;
-use bptree_sharded::map_shard::empty_over;
-use bptree_sharded::shard::Shard;
-use bptree_sharded::whole::Shards;
-use bptree_shards::combining::{
+use bptree_map::map::BPlusTreeMap;
+use bptree_shard_routing::combining::{
     Part, first_full, last_full, locate, next_full, next_part, prev_full,
 };
-use bptree_shards::routing::{route, route_below, route_range};
+use bptree_shard_routing::routing::{route, route_below, route_range};
+use bptree_sharded_map::map_shard::empty_over;
+use bptree_sharded_map::shard::Shard;
+use bptree_sharded_map::whole::Shards;
 use std::alloc::{AllocError, Global};
 
 /// A shard: a map with counts.
@@ -65,7 +65,7 @@ where
         }
     }
 
-    // The reads that name a key.
+    // Makes the reads that name a key.
     fn read_at(&self, alloc: Global, record: &Record, words: &mut Words) -> bool {
         let Ok(key) = S::K::sample(alloc, record.a) else {
             return false;
@@ -95,8 +95,8 @@ where
     }
 
     fn page(&self, alloc: Global, record: &Record, words: &mut Words) -> bool {
-        let (place, most) = (record.a as usize, record.b as usize);
-        report_found(self.whole.page(alloc, place, most), words)
+        let (index, most) = (record.a as usize, record.b as usize);
+        report_found(self.whole.page(alloc, index, most), words)
     }
 
     fn range(&self, alloc: Global, record: &Record, words: &mut Words) -> bool {
@@ -133,7 +133,7 @@ where
         self.whole.split(key).is_ok()
     }
 
-    // The calls that change how many shards there are.
+    // Makes the calls that change the number of shards.
     fn move_bounds(&mut self, alloc: Global, record: &Record, words: &mut Words) -> bool {
         match record.member() {
             0 => self.split(alloc, record),
@@ -142,8 +142,8 @@ where
         }
     }
 
-    // The calls on the shards that there are. They stand apart from those that name a map, since a
-    // function that names it is dear to prove for each call.
+    // Makes the calls on the present shards. They are apart from the calls that name a map, since a
+    // function that names it is expensive to prove for each call.
     fn on_shards(&mut self, alloc: Global, record: &Record, words: &mut Words) -> bool {
         match record.family() {
             0 => self.change(alloc, record, words),
@@ -163,12 +163,12 @@ impl Report for Part {
     }
 }
 
-// The first numbers, as many as `d` says in its lowest byte.
+// Returns the first numbers, as many as the lowest byte of `d` says.
 fn used(numbers: &[usize; 3], d: u64) -> &[usize] {
     &numbers[..((d & 255) as usize).min(3)]
 }
 
-// The calls that are given the bounds of shards, and keys.
+// Makes the calls that take the bounds of shards, and keys.
 fn route_keys(bounds: &[usize], lo: usize, hi: usize, member: u64, words: &mut Words) {
     match member {
         0 => route(bounds, &lo).report(words),
@@ -179,7 +179,7 @@ fn route_keys(bounds: &[usize], lo: usize, hi: usize, member: u64, words: &mut W
     }
 }
 
-// The calls that are given the lengths of shards, and the number of a shard.
+// Makes the calls that take the lengths of shards, and the index of a shard.
 fn find_full(lengths: &[usize], shard: usize, member: u64, words: &mut Words) -> bool {
     match member {
         7 => first_full(lengths).report(words),
@@ -191,7 +191,7 @@ fn find_full(lengths: &[usize], shard: usize, member: u64, words: &mut Words) ->
     true
 }
 
-// The calls that are given bounds or lengths. `d` has a number from bit 8 on, and another one from
+// Makes the calls that take bounds or lengths. `d` has a number from bit 8 on, and another one from
 // bit 32 on.
 fn choose(record: &Record, words: &mut Words) -> bool {
     let numbers = [record.a as usize, record.b as usize, record.c as usize];
@@ -215,7 +215,7 @@ fn keys_at<K: Sample>(alloc: Global, numbers: &[usize]) -> Result<Vec<K>, AllocE
     Ok(keys)
 }
 
-// Empty shards between the bounds of a record.
+// Returns empty shards between the bounds of a record.
 fn begun<K: Sample>(alloc: Global, record: &Record) -> Result<Shards<Map<K>>, AllocError> {
     let numbers = [record.a as usize, record.b as usize, record.c as usize];
     empty_over(alloc, keys_at(alloc, used(&numbers, record.d))?)

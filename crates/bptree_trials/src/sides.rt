@@ -5,9 +5,9 @@ use crate::walk::{Steps, drain, report_step, walk};
 use crate::words::{Report, Words};
 use bptree_arguments::argument::Argument;
 use bptree_keys::key::Key;
-use bptree_maps::map::{IntoSideIter, LentSide, Side, SideIter};
+use bptree_map::map::{BorrowedSide, IntoSideIter, Side, SideIter};
 
-impl<'a, K: Key, V: Drop, A: Argument<K>, Z: LentSide<K, V>> Steps for SideIter<'a, K, V, A, Z>
+impl<'a, K: Key, V: Drop, A: Argument<K>, Z: BorrowedSide<K, V>> Steps for SideIter<'a, K, V, A, Z>
 where
     Z::Part: Report,
 {
@@ -24,9 +24,9 @@ where
     }
 }
 
-/// Walks over borrowed keys or values. Those of maps and sets all come here, since each function that
-/// says what such an iterator does is expensive to prove.
-pub fn walk_side<K: Key, V: Drop, A: Argument<K>, Z: LentSide<K, V>>(
+/// Walks over borrowed keys or values. One function serves maps and sets, since each function that
+/// uses the contract of such an iterator is expensive to prove.
+pub fn walk_side<K: Key, V: Drop, A: Argument<K>, Z: BorrowedSide<K, V>>(
     items: SideIter<'_, K, V, A, Z>,
     record: &Record,
     words: &mut Words,
@@ -37,7 +37,7 @@ where
     walk(items, record, words)
 }
 
-/// Takes keys or values that are owned from both ends and then the others, and reports them.
+/// Takes owned keys or values from both ends and then the others, and reports them.
 pub fn drain_side<K: Key, V: Drop, A: Argument<K>, Z: Side<K, V>>(
     items: IntoSideIter<K, V, A, Z>,
     record: &Record,

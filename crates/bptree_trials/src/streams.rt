@@ -4,13 +4,13 @@ ghost use Rattle.std.specs.Prelude.{◌<◌, Some};
 use crate::record::Record;
 use crate::subject::{Subject, no_call};
 use crate::words::Words;
-use bptree_script::error::ServeError;
-use bptree_script::session::serve;
+use bptree_commands::error::ServeError;
+use bptree_commands::session::serve;
 use std::alloc::{AllocError, Global};
 use std::io;
 use std::io::{ErrorKind, Read, Write};
 
-// Gives at most `step` bytes a read, and fails after `good` reads.
+// A reader that returns at most `step` bytes a read, and fails after `good` reads.
 #[derive(Drop)]
 struct Source<'a> {
     left: &'a [u8],
@@ -35,7 +35,7 @@ impl Read for Source<'_> {
     }
 }
 
-// Takes at most `step` bytes a write, and fails after `room` bytes in all.
+// A writer that takes at most `step` bytes a write, and fails after `room` bytes in all.
 #[derive(Drop)]
 struct Sink {
     bytes: Vec<u8>,
@@ -72,7 +72,7 @@ pub struct Input {
     bytes: Vec<u8>,
 }
 
-// Adds the first bytes of a number, the least one first. Returns whether memory was there.
+// Adds the first bytes of a number, the least one first. Returns whether no allocation failed.
 fn add_bytes(input: &mut Vec<u8>, number: u64, many: usize) -> bool {
     let bytes = number.to_le_bytes();
     input.extend_from_slice(&bytes[..many.min(8)]).is_ok()
@@ -92,10 +92,10 @@ fn add_written(sink: &Sink, words: &mut Words) {
     }
 }
 
-// Serves the input, and replies with how serving ended and what was written. The record has the
-// bytes of each read and the number of reads, and then the bytes of each write with whether a flush
-// fails in the lowest bit, and the number of bytes in all.
-fn answer(alloc: Global, input: &[u8], record: &Record, words: &mut Words) -> bool {
+// Serves the input, and reports how serving ended and what was written. The record has the bytes of
+// each read, the number of reads, the bytes of each write, and the number of bytes in all. The
+// lowest bit of the bytes of each write says whether a flush fails.
+fn outcome(alloc: Global, input: &[u8], record: &Record, words: &mut Words) -> bool {
     let mut source = Source {
         left: input,
         step: (record.a as usize).max(1),
@@ -127,7 +127,7 @@ impl Subject for Input {
     fn call(&mut self, alloc: Global, record: &Record, words: &mut Words) -> bool {
         match record.call {
             0 => extend(&mut self.bytes, record),
-            1 => answer(alloc, &self.bytes, record, words),
+            1 => outcome(alloc, &self.bytes, record, words),
             2 => {
                 self.bytes.clear();
                 true

@@ -1,12 +1,12 @@
-//! What the calls of a caller are made on.
+//! The subjects of the calls of a caller.
 
 use crate::record::Record;
 use crate::words::Words;
 use std::alloc::{AllocError, Global};
 
-/// What a caller makes its calls on.
+/// The subject of a caller's calls.
 pub trait Subject: Drop + Sized {
-    /// Creates a subject on which no call has been made.
+    /// Makes a subject on which no call has been made.
     fn begin(alloc: Global) -> Result<Self, AllocError>;
 
     /// Makes the call of a record, and writes its reply to `words`. Returns false if an allocation

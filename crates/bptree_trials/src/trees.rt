@@ -13,7 +13,7 @@ use crate::words::{Report, Words};
 use crate::{cursors, nodes};
 use bptree_arguments::argument::CloneArgument;
 use bptree_arguments::visit::DescendError;
-use bptree_loading::loading::in_load_order;
+use bptree_load_plan::loading::in_load_order;
 use bptree_stores::node_stores::{CloneStore, NodeStore};
 use bptree_tree::BPlusTree;
 use bptree_tree::cursor::Cursor;
@@ -23,7 +23,7 @@ use std::alloc::{AllocError, Global};
 use std::mem;
 use std::ops::Bound;
 
-// Puts a key into the tree, in place of one that equals it if that is asked.
+// Inserts a key into the tree, or replaces an equal one if the record asks for that.
 fn put<S: NodeStore<V = u64>>(
     alloc: Global,
     tree: &mut BPlusTree<S>,
@@ -43,7 +43,7 @@ where
     }
 }
 
-// The other changes that name a key.
+// Makes the other changes that name a key.
 fn change_at<S: NodeStore<V = u64>>(
     alloc: Global,
     tree: &mut BPlusTree<S>,
@@ -63,7 +63,7 @@ where
     }
 }
 
-// The changes that need a query.
+// Makes the changes that need a query.
 fn change_found<S: NodeStore<V = u64>>(
     alloc: Global,
     tree: &mut BPlusTree<S>,
@@ -89,7 +89,7 @@ where
     }
 }
 
-// The changes that need no query.
+// Makes the changes that need no query.
 fn change<S: NodeStore<V = u64>>(
     alloc: Global,
     tree: &mut BPlusTree<S>,
@@ -109,7 +109,7 @@ where
     }
 }
 
-// All changes.
+// Makes all changes.
 fn change_queried<S: NodeStore<V = u64>>(
     alloc: Global,
     tree: &mut BPlusTree<S>,
@@ -126,7 +126,7 @@ where
     }
 }
 
-// The reads that name a key.
+// Makes the reads that name a key.
 fn read_at<S: NodeStore<V = u64>>(
     alloc: Global,
     tree: &BPlusTree<S>,
@@ -180,7 +180,7 @@ where
     report_rank_of::<S::K, S::Argument>(tree.rank_by_argument(&key), words)
 }
 
-// The reads that need no query.
+// Makes the reads that need no query.
 fn read<S: NodeStore<V = u64>>(
     alloc: Global,
     tree: &BPlusTree<S>,
@@ -199,7 +199,7 @@ where
     true
 }
 
-// All reads.
+// Makes all reads.
 fn read_queried<S: NodeStore<V = u64>>(
     alloc: Global,
     tree: &BPlusTree<S>,
@@ -239,8 +239,8 @@ where
     }
 }
 
-/// Walks over pairs of a tree. All calls that return such an iterator come here, since each function
-/// that says what it does is expensive to prove.
+/// Walks over pairs of a tree. One function makes all calls that return such an iterator, since
+/// each function that uses its contract is expensive to prove.
 pub fn walk_pairs<S: NodeStore>(pairs: Iter<'_, S>, record: &Record, words: &mut Words) -> bool
 where
     S::K: Report,
@@ -264,7 +264,8 @@ where
     walk_pairs(tree.range(lo.as_ref(), hi.as_ref()), record, words)
 }
 
-/// A bound of a range: the key is in it or not, where there is a key.
+/// Returns a bound of a range. If there is a key, the range includes or excludes it. If there is no
+/// key, the bound is open.
 pub fn bound_of<K: Sample>(key: &Option<K>, is_included: bool) -> Bound<&K> {
     match key {
         Some(key) if is_included => Bound::Included(key),
@@ -345,7 +346,7 @@ where
     report_if_ok(tree.part_argument(from, to), words)
 }
 
-// The parts that need no query.
+// Makes the calls for parts of a tree that need no query.
 fn part<S: NodeStore<V = u64>>(
     alloc: Global,
     tree: &BPlusTree<S>,
@@ -365,7 +366,7 @@ where
     }
 }
 
-// All parts.
+// Makes all calls for parts of a tree.
 fn part_queried<S: NodeStore<V = u64>>(
     alloc: Global,
     tree: &BPlusTree<S>,
@@ -383,7 +384,7 @@ where
     }
 }
 
-/// A tree of pairs that is loaded at once. Pairs that are not in order are not loaded.
+/// Returns a tree that is bulk loaded from pairs. Pairs that are not in order are not loaded.
 pub fn tree_of<S: NodeStore>(pairs: Vec<(S::K, S::V)>) -> Result<BPlusTree<S>, AllocError> {
     if in_load_order(&pairs) {
         BPlusTree::bulk_load(pairs)
@@ -399,11 +400,11 @@ where
     tree_of(pairs_of(alloc, 0, record.a, record.b)?)
 }
 
-/// Puts what was made in its place. Returns false if nothing was made.
-pub fn replace<T: Drop>(place: &mut T, made: Result<T, AllocError>) -> bool {
+/// Replaces a value by the one that was made. Returns false if none of them was made.
+pub fn replace<T: Drop>(target: &mut T, made: Result<T, AllocError>) -> bool {
     match made {
         Ok(it) => {
-            *place = it;
+            *target = it;
             true
         }
         Err(_) => false,
@@ -417,19 +418,19 @@ pub struct Both<S: NodeStore> {
     pub there: BPlusTree<S>,
 }
 
-/// A tree without pairs.
+/// Makes a tree without pairs.
 pub fn new_tree<S: NodeStore>(alloc: Global) -> Result<BPlusTree<S>, AllocError> {
     BPlusTree::new(S::empty(alloc))
 }
 
-/// Two of them.
+/// Makes two trees without pairs.
 pub fn two_trees<S: NodeStore>(alloc: Global) -> Result<Both<S>, AllocError> {
     let here = new_tree(alloc)?;
     let there = new_tree(alloc)?;
     Ok(Both { here, there })
 }
 
-/// Takes pairs of a tree that is taken apart, in one of two ways.
+/// Takes pairs of a tree that is taken apart, in one of two orders.
 pub fn take_pairs<S: NodeStore>(
     pairs: &mut IntoIter<S>,
     is_in_turn: bool,
@@ -462,7 +463,7 @@ where
     }
 }
 
-/// The calls that copy, exchange or replace whole trees.
+/// Makes the calls that copy, exchange or replace whole trees.
 pub fn exchange<S: CloneStore>(
     alloc: Global,
     both: &mut Both<S>,
@@ -484,7 +485,7 @@ where
     }
 }
 
-// The calls that make or exchange whole trees.
+// Makes the calls that make or exchange whole trees.
 fn whole<S: CloneStore<V = u64>>(
     alloc: Global,
     both: &mut Both<S>,
@@ -502,7 +503,7 @@ where
     }
 }
 
-/// A visitor that says the same at each inner node.
+/// Returns a visitor that has the same result at each inner node.
 pub fn says_of(record: &Record) -> Says {
     Says::new(match record.a {
         0 => Say::Child(record.b as usize),
@@ -511,15 +512,15 @@ pub fn says_of(record: &Record) -> Says {
     })
 }
 
-/// Reports what a visitor returned.
+/// Reports the result of a visit.
 pub fn report_visit(
-    answer: Result<Option<(usize, usize)>, DescendError>,
+    outcome: Result<Option<(usize, usize)>, DescendError>,
     words: &mut Words,
 ) -> bool {
-    match answer {
-        Ok(answer) => {
+    match outcome {
+        Ok(outcome) => {
             words.add(0);
-            answer.report(words);
+            outcome.report(words);
             true
         }
         Err(DescendError::InvalidChild) => {

@@ -5,7 +5,7 @@ use crate::samples::Sample;
 use crate::words::{Report, Words};
 use std::alloc::{AllocError, Global};
 
-// The number whose key comes in a turn, and its value.
+// Returns the number of the key in a turn, and its value.
 fn pair_in(turn: u64, order: u64) -> (u64, u64) {
     match order {
         0 => (turn, turn),
@@ -16,7 +16,7 @@ fn pair_in(turn: u64, order: u64) -> (u64, u64) {
     }
 }
 
-/// The pairs of the turns from `first` up to `end`.
+/// Returns the pairs of the turns from `first` up to `end`.
 pub fn pairs_of<K: Sample>(
     alloc: Global,
     first: u64,
@@ -31,7 +31,7 @@ pub fn pairs_of<K: Sample>(
     Ok(pairs)
 }
 
-/// The keys of these turns.
+/// Returns the keys of the turns from `first` up to `end`.
 pub fn keys_of<K: Sample>(
     alloc: Global,
     first: u64,
@@ -46,7 +46,7 @@ pub fn keys_of<K: Sample>(
     Ok(keys)
 }
 
-/// The key of a number, if there is a bound.
+/// Returns the key of a number if there is a bound, and `None` otherwise.
 pub fn bound<K: Sample>(alloc: Global, has: bool, number: u64) -> Result<Option<K>, AllocError> {
     if has {
         Ok(Some(K::sample(alloc, number)?))
@@ -55,7 +55,7 @@ pub fn bound<K: Sample>(alloc: Global, has: bool, number: u64) -> Result<Option<
     }
 }
 
-/// The lower and the upper key of a record, where it has them.
+/// Returns the lower and the upper key of a record, each if the record has it.
 pub fn bounds<K: Sample>(
     alloc: Global,
     record: &Record,
@@ -65,7 +65,7 @@ pub fn bounds<K: Sample>(
     Ok((lo, hi))
 }
 
-// Takes items from both ends as the record says, and reports them and how many are left.
+// Takes items from both ends as the record says, and reports them and the number of items left.
 fn report_steps<I: DoubleEndedIterator + ExactSizeIterator>(
     items: &mut I,
     record: &Record,
@@ -90,7 +90,7 @@ where
     upper.report(words);
 }
 
-// Takes `many` items from each end in turn, and reports them and how many are left before and after.
+// Takes `many` items from each end in turn, and reports them and the number left before and after.
 fn report_both_ends<I: DoubleEndedIterator + ExactSizeIterator>(
     items: &mut I,
     many: u64,
@@ -121,15 +121,15 @@ where
     }
 }
 
-/// An iterator over references, which reports its items itself. The functions below are not generic
-/// in `Iterator`: if the items are references, each call of such a function needs a proof about their
-/// lifetimes.
+/// An iterator over references that reports its items itself. The functions below are not generic
+/// in `Iterator`: if the items are references, each call of such a function needs a proof about
+/// their lifetimes.
 pub trait Steps: Clone + Drop {
-    /// Takes an item from an end. If `is_reported`, reports a 1 and the item, or a 0 if there is none.
-    /// Returns whether there was an item.
+    /// Takes an item from an end. If `is_reported`, it reports a 1 and the item, or a 0 if there is
+    /// no item. Returns whether there was an item.
     fn step(&mut self, is_back: bool, is_reported: bool, words: &mut Words) -> bool;
 
-    /// How many items are left, and the bounds of how many are.
+    /// Returns the number of items left, and the bounds of this number.
     fn left(&self) -> (usize, (usize, Option<usize>));
 }
 
@@ -149,7 +149,7 @@ pub fn report_step<T: Report + Drop>(
     is_there
 }
 
-// Takes items from both ends as the record says, and reports them and how many are left.
+// Takes items from both ends as the record says, and reports them and the number of items left.
 fn take_steps<I: Steps>(items: &mut I, record: &Record, words: &mut Words) {
     items.left().0.report(words);
     for step in 0..(record.d >> 8) & 255 {
@@ -167,8 +167,8 @@ fn take_rest<I: Steps>(items: &mut I, words: &mut Words) {
     }
 }
 
-/// Takes items from both ends, reports them, and then the rest of a clone, behind which there is no
-/// other at the back.
+/// Takes items from both ends and reports them. It then takes the rest of a clone from the front,
+/// and reports that the clone has no item left at the back.
 pub fn walk<I: Steps>(items: I, record: &Record, words: &mut Words) -> bool {
     let mut items = items;
     take_steps(&mut items, record, words);
@@ -181,8 +181,9 @@ pub fn walk<I: Steps>(items: I, record: &Record, words: &mut Words) -> bool {
     true
 }
 
-/// Takes items and reports them: as many from each end as the record says, in turn, or by the steps of
-/// the record and then the others. It is one function since what shows an iterator to two pays twice.
+/// Takes items and reports them: as many from each end as the record says, in turn, or by the steps
+/// of the record and then the others. It is one function, since a caller that passes an iterator to
+/// two functions is proved twice as long.
 pub fn take_items<I: DoubleEndedIterator + ExactSizeIterator>(
     items: &mut I,
     is_in_turn: bool,

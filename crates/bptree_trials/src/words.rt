@@ -1,9 +1,10 @@
 //! The reply to a call, as words.
 
-/// The most words of a reply that are sent. Of a longer reply the first ones are.
+/// The greatest number of words of a reply that are sent. Of a longer reply the first words are
+/// sent.
 pub const SENT: usize = 1024;
 
-/// The words of a reply, and a digest of all of them: another word, or another order, makes another
+/// The words of a reply, and a digest of all of them. Another word, or another order, gives another
 /// digest.
 #[derive(Drop)]
 pub struct Words {
@@ -13,7 +14,7 @@ pub struct Words {
 }
 
 impl Words {
-    /// No words. Their digest is 0.
+    /// Makes a reply without words. Its digest is 0.
     pub fn new() -> Words {
         Words {
             words: [0; SENT],
@@ -39,23 +40,23 @@ impl Words {
         self.len = self.len.saturating_add(1);
     }
 
-    /// The number of words that were added.
+    /// Returns the number of words that were added.
     pub fn len(&self) -> usize {
         self.len
     }
 
-    /// The digest of all words.
+    /// Returns the digest of all words.
     pub fn digest(&self) -> u64 {
         self.digest
     }
 
-    /// The words that are sent.
+    /// Returns the words that are sent.
     pub fn sent(&self) -> &[u64] {
         &self.words[..self.len.min(SENT)]
     }
 }
 
-/// What adds itself to a reply.
+/// A value that adds itself to a reply.
 pub trait Report {
     fn report(&self, words: &mut Words);
 }
@@ -82,7 +83,7 @@ impl Report for () {
     fn report(&self, _words: &mut Words) {}
 }
 
-/// A 1 and the value, or a 0.
+/// An option reports a 1 and the value, or a 0.
 impl<T: Report> Report for Option<T> {
     fn report(&self, words: &mut Words) {
         match self {

@@ -1,4 +1,4 @@
-//! Summaries of keys, and the queries and ranks that they answer.
+//! Summaries of keys, and the queries and ranks that are computed from them.
 
 pub use bptree_arguments::argument::{Argument, CloneArgument, RankArgument, SearchArgument};
 

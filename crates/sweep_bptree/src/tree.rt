@@ -1,8 +1,9 @@
 //! The tree, its nodes, its stores and its iterators.
 
-/// Of each run of items that are the same, the last. `BPlusTree::bulk_load` loads a tree.
+/// Iterators that keep the last item of each run of equal items. `BPlusTree::bulk_load` loads a
+/// tree.
 pub mod bulk_load {
-    pub use bptree_loading::dedup::{DeDupKeepLast, DedupByExt};
+    pub use bptree_load_plan::dedup::{DeDupKeepLast, DedupByExt};
 }
 
 pub use crate::argument::{Argument, RankArgument, SearchArgument};
@@ -10,7 +11,7 @@ pub use bptree_arguments::visit;
 pub use bptree_keys::compares::{Compares, SearchHint};
 pub use bptree_keys::key::Key;
 pub use bptree_keys::node_id::{InnerNodeId, LeafNodeId, NodeId};
-pub use bptree_loading::loading::in_load_order;
+pub use bptree_load_plan::loading::in_load_order;
 pub use bptree_nodes::inner_node::InnerNode;
 pub use bptree_nodes::leaf_node::LeafNode;
 pub use bptree_stores::node_store_vec::NodeStoreVec;

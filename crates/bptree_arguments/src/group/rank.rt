@@ -1,6 +1,6 @@
 //! The rank of a key in its group.
 ghost use Rattle.std.specs.Prelude.{◌≡◌, ◌≢◌, ◌-◌, ◌<◌, ◌≤◌, [], length, Ok, None, is_ok, IfOk};
-ghost use Rattle.bptree_arguments.specs.GroupAnswers.{IsRankInGroup, StandsInGroup, carried, CarriesInGroup, CountsInGroup, IsCarriedOn, RanksInGroup, StaysCarried, CarriesOnly};
+ghost use Rattle.bptree_arguments.specs.GroupResults.{IsRankInGroup, RepresentsInGroup, carried, CarriesInGroup, CountsInGroup, IsCarriedOn, RanksInGroup, StaysCarried, CarriesOnly};
 ghost use Rattle.bptree_arguments.specs.Ranks.{IsSlotIn};
 
 use crate::argument::RankArgument;
@@ -11,7 +11,7 @@ use bptree_keys::key::Key;
 use std::alloc::AllocError;
 use std::cmp::Ordering;
 
-/// The number in a rank, where that is of the group, and else 0.
+/// Returns the number in a rank if the rank is of the group, and otherwise 0.
 fn carried_for<G: Key>(rank: Option<(G, usize)>, group: &G) -> usize
     ensures { result ≡ carried G.cmp group.now rank }
 {
@@ -21,8 +21,9 @@ fn carried_for<G: Key>(rank: Option<(G, usize)>, group: &G) -> usize
     }
 }
 
-/// The group of a key, with the number of keys in it among the smaller ones. These are those of the
-/// key's leaf, and where none of them is of a lesser group, those that the rank carries too.
+/// Returns the group of a key, with the number of smaller keys in that group. These are keys of the
+/// key's leaf and, if none of the smaller keys there is of a lesser group, those that the rank
+/// carries too.
 fn ranked_after<K: Key, G: FromRef<K> + Key>(
     k: &K,
     rank: Option<(G, usize)>,
@@ -42,25 +43,25 @@ fn ranked_after<K: Key, G: FromRef<K> + Key>(
     Ok((group, count.saturating_add(before)))
 }
 
-/// The rank of a key is its group, with the number of smaller keys of that group. Before any key
-/// there is none.
+/// The rank of a key is its group, with the number of smaller keys of that group. Before any key,
+/// the rank is `None`.
 impl<K: Key, G: FromRef<K> + Key> RankArgument<K> for GroupCount<G> {
     type Rank = Option<(G, usize)>;
 
-    ghost stands_for = { λ rank k before. StandsInGroup G.cmp G.group_of k before rank };
+    ghost represents = { λ rank k before. RepresentsInGroup G.cmp G.group_of k before rank };
 
     ghost ranks = { λ k keys rank. IsRankInGroup G.cmp G.group_of k K.cmp keys rank };
 
     fn initial_value() -> Option<(G, usize)>
-        ensures stands { (k : K) → StandsInGroup G.cmp G.group_of k [] result }
+        ensures stored { (k : K) → RepresentsInGroup G.cmp G.group_of k [] result }
         ensures none { result ≡ None }
     {
         None
     }
 
-    /// From the last child backwards, up to the first whose greatest group is below the key's: at
-    /// most one step a child. A sum stops at the greatest `usize`, which no list of keys is longer
-    /// than.
+    /// Goes from the last child backwards, up to the first whose greatest group is below the key's,
+    /// in at most one step per child. A sum stops at the greatest `usize`, and no list of keys is
+    /// longer than that.
     fn fold_inner(
         k: &K,
         rank: Option<(G, usize)>,
@@ -88,7 +89,7 @@ impl<K: Key, G: FromRef<K> + Key> RankArgument<K> for GroupCount<G> {
         Ok(Some((group, count)))
     }
 
-    /// Of 64 keys it makes the groups of at most 7, and that of the key.
+    /// Makes the group of the key, and the groups of at most 7 of 64 keys.
     fn fold_leaf(
         k: &K,
         rank: Option<(G, usize)>,
@@ -97,7 +98,7 @@ impl<K: Key, G: FromRef<K> + Key> RankArgument<K> for GroupCount<G> {
     ) -> Result<Result<Option<(G, usize)>, Option<(G, usize)>>, AllocError>
         requires few { length keys.now ≤ 64 }
         requires slot { IsSlotIn keys.now slot }
-        ensures variant { IfOk result (λ answer. is_ok answer ≡ is_ok slot) }
+        ensures variant { IfOk result (λ outcome. is_ok outcome ≡ is_ok slot) }
         ensures ranked { IfOk result (RanksInGroup G.cmp G.group_of k.now K.cmp rank keys.now slot) }
         ensures empty { keys.now ≡ [] → IfOk result (StaysCarried G.cmp (G.group_of k.now) rank) }
     {

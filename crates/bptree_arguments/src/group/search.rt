@@ -1,7 +1,7 @@
-//! A key by its place in its group.
+//! A search for a key by its index in its group.
 ghost use Rattle.std.specs.Prelude.{◌≤◌, IfOk, length, map};
 ghost use Rattle.bptree_arguments.specs.Groups.{SelectsInGroup};
-ghost use Rattle.bptree_arguments.specs.Selection.{IsPlaceIn};
+ghost use Rattle.bptree_arguments.specs.Selection.{IsIndexBelow};
 ghost use Rattle.bptree_keys.specs.Locate.{IfAscending};
 
 use crate::argument::SearchArgument;
@@ -12,33 +12,34 @@ use bptree_keys::key::Key;
 use std::alloc::AllocError;
 use std::cmp::Ordering;
 
-/// A query is a group and a place in it: it selects the key there, or none where the group has no
-/// more keys.
+/// A query is a group and an index in it: it selects the key at that index, or `None` if the group
+/// has no more keys.
 impl<K: Key, G: FromRef<K> + Key> SearchArgument<K> for GroupCount<G> {
     type Query = (G, usize);
 
-    ghost selects = { λ query keys place. SelectsInGroup G.cmp query.0 query.1 (map G.group_of keys) place };
+    ghost selects = { λ query keys index. SelectsInGroup G.cmp query.0 query.1 (map G.group_of keys) index };
 
-    /// Of 64 keys it makes the groups of at most 8.
+    /// Makes the groups of at most 8 of 64 keys.
     fn locate_in_leaf(query: (G, usize), keys: &[K]) -> Result<Option<usize>, AllocError>
         requires { length keys.now ≤ 64 }
-        ensures in_range { IfOk result (IsPlaceIn keys.now) }
+        ensures in_range { IfOk result (IsIndexBelow keys.now) }
         ensures selected { IfOk result (IfAscending K.cmp keys.now (SelectsInGroup G.cmp query.0 query.1 (map G.group_of keys.now))) }
     {
         let (group, offset) = query;
         let start = keys_before(keys, &group, End::Front)?;
         if offset < keys.len() - start {
-            let place = start + offset;
-            let of_key = G::from_ref(&keys[place])?;
+            let index = start + offset;
+            let of_key = G::from_ref(&keys[index])?;
             if of_key.cmp(&group).is_eq() {
-                return Ok(Some(place));
+                return Ok(Some(index));
             }
         }
         Ok(None)
     }
 
-    /// The child in which the key lies, and the query's group with the place in it there. At most
-    /// one step a child, up to the first whose greatest group is above the query's.
+    /// Returns the child in which the key lies, and the query's group with the index within that
+    /// child. It takes at most one step per child, up to the first whose greatest group is above
+    /// the query's.
     fn locate_in_inner(
         query: (G, usize),
         _keys: &[K],

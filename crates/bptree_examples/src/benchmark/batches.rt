@@ -9,23 +9,23 @@ use sweep_bptree::{BPlusTreeMap, Count};
 
 type Counted = BPlusTreeMap<u64, u64, Count>;
 
-// So many keys come at once.
+// The number of keys of a batch.
 const BATCH: usize = 1000;
 
-// A read of at most so many keys.
+// A read of at most `BATCH` keys.
 trait ReadsMany {
-    // Makes the call with the keys. Returns what it adds to the sum of a line.
+    // Makes the call with the keys. Returns what the call adds to the sum of a line.
     fn call(&self, map: &Counted, keys: &[u64]) -> u64
         requires { length keys.now ≤ 1000 };
 }
 
-// The values at the keys.
+// Reads the values at the keys.
 struct GetMany;
 
-// Whether the keys are there.
+// Tests whether the keys are present.
 struct ContainsMany;
 
-// The ranks of the keys.
+// Reads the ranks of the keys.
 struct RankMany;
 
 impl ReadsMany for GetMany {
@@ -69,7 +69,7 @@ impl ReadsMany for RankMany {
     }
 }
 
-// All keys, a thousand at once, for each of them.
+// Reads all keys in batches, and prints the time for each key.
 #[inline(never)]
 fn read_batches<C: ReadsMany>(
     report: Report<'_>,
@@ -89,7 +89,7 @@ fn read_batches<C: ReadsMany>(
     clock.stop(keys.len(), sum);
 }
 
-// The even number below each of the first keys.
+// Returns the even number below each of the first keys.
 fn new_keys(alloc: Global, keys: &[u64], many: usize) -> Result<Vec<u64>, AllocError> {
     let mut numbers = Vec::with_capacity(alloc, many)?;
     for key in keys.iter().take(many) {
@@ -98,7 +98,8 @@ fn new_keys(alloc: Global, keys: &[u64], many: usize) -> Result<Vec<u64>, AllocE
     Ok(numbers)
 }
 
-// New pairs come all at once, one for a hundred that are there, and leave again, for each of them.
+// Inserts the new pairs in one call and removes them in one call, and prints the time for each
+// pair.
 fn insert_many(report: Report<'_>, map: &mut Counted, keys: &[u64]) -> bool {
     let alloc = report.rt.alloc();
     let many = keys.len();
@@ -124,7 +125,7 @@ fn insert_many(report: Report<'_>, map: &mut Counted, keys: &[u64]) -> bool {
     true
 }
 
-/// Calls for many keys at once. Returns whether nothing was refused.
+/// Times calls for many keys at once. Returns whether no call failed.
 pub fn take(report: Report<'_>, numbers: Numbers<'_>) -> bool {
     let alloc = report.rt.alloc();
     let Ok(pairs) = pairs_of(alloc, numbers.keys) else {

@@ -1,4 +1,4 @@
-//! Places and ranks, and parts of a tree with counts.
+//! Indices and ranks, and parts of a tree with counts.
 
 use crate::benchmark::numbers::Numbers;
 use crate::benchmark::ordered::{Mapped, add_keys, empty, fill_and_read};
@@ -16,25 +16,25 @@ impl Numbered for Count {
     }
 }
 
-/// The look-up of a place below a number of keys. Keys name the places.
+/// Looks up the pair at an index. The index is the key modulo `many`.
 #[derive(Clone, Copy)]
 struct At {
     many: u64,
 }
 
-/// The rank of a key.
+/// Reads the rank of a key.
 struct Rank;
 
-/// Ten pairs from a place on, by the keys there and ten pairs further.
+/// Reads ten pairs from an index on, by the keys at the two ends of the range.
 #[derive(Clone, Copy)]
 struct Range<'a> {
     sorted: &'a [u64],
 }
 
-/// Twenty pairs from a place on.
+/// Reads twenty pairs from an index on.
 struct Page;
 
-/// The summary of half of the keys, from a place of the first half on.
+/// Reads the summary of half of the keys, from an index in the first half on.
 #[derive(Clone, Copy)]
 struct Sum<'a> {
     sorted: &'a [u64],
@@ -73,10 +73,10 @@ where
 
 impl<S: NodeStore<K = u64, V = u64>> Reads<BPlusTree<S>, u64> for Range<'_> {
     #[inline(always)]
-    fn call(&self, tree: &BPlusTree<S>, place: &u64) -> Option<u64> {
-        let place = *place as usize;
-        let lo = self.sorted.get(place);
-        let hi = self.sorted.get(place.saturating_add(10));
+    fn call(&self, tree: &BPlusTree<S>, index: &u64) -> Option<u64> {
+        let index = *index as usize;
+        let lo = self.sorted.get(index);
+        let hi = self.sorted.get(index.saturating_add(10));
         if lo.is_some() && hi.is_some() {
             Some(add_keys(0, tree.range(lo, hi)))
         } else {
@@ -90,8 +90,8 @@ where
     S::Argument: SearchArgument<u64, Query = usize>,
 {
     #[inline(always)]
-    fn call(&self, tree: &BPlusTree<S>, place: &u64) -> Option<u64> {
-        match tree.range_by_argument(*place as usize, 20) {
+    fn call(&self, tree: &BPlusTree<S>, index: &u64) -> Option<u64> {
+        match tree.range_by_argument(*index as usize, 20) {
             Ok(page) => Some(add_keys(0, page)),
             Err(_) => None,
         }
@@ -103,8 +103,8 @@ where
     S::Argument: Numbered,
 {
     #[inline(always)]
-    fn call(&self, tree: &BPlusTree<S>, place: &u64) -> Option<u64> {
-        let from = *place as usize / 2;
+    fn call(&self, tree: &BPlusTree<S>, index: &u64) -> Option<u64> {
+        let from = *index as usize / 2;
         let lo = self.sorted.get(from);
         let hi = self.sorted.get(from.saturating_add(self.sorted.len() / 2));
         match tree.range_argument(lo, hi) {
@@ -114,7 +114,7 @@ where
     }
 }
 
-// Reads places, ranks and parts of a tree. Returns whether nothing was refused.
+// Reads indices, ranks and parts of a tree. Returns whether no call failed.
 fn read_parts<S: NodeStore<K = u64, V = u64>>(
     report: Report<'_>,
     tree: &BPlusTree<S>,
@@ -127,12 +127,12 @@ where
     let sorted = numbers.sorted;
     read_each(report, "at", &At { many }, tree, numbers.others)
         && read_each(report, "rank", &Rank, tree, numbers.others)
-        && read_each(report, "range", &Range { sorted }, tree, numbers.places)
-        && read_each(report, "page", &Page, tree, numbers.places)
-        && read_each(report, "sum", &Sum { sorted }, tree, numbers.places)
+        && read_each(report, "range", &Range { sorted }, tree, numbers.indexes)
+        && read_each(report, "page", &Page, tree, numbers.indexes)
+        && read_each(report, "sum", &Sum { sorted }, tree, numbers.indexes)
 }
 
-/// Fills a tree with counts, reads it and empties it. Returns whether nothing was refused.
+/// Fills a tree with counts, reads it and empties it. Returns whether no call failed.
 pub fn take<S: NodeStore<K = u64, V = u64>>(report: Report<'_>, numbers: Numbers<'_>) -> bool
 where
     S::Argument: SearchArgument<u64, Query = usize> + RankArgument<u64, Rank = usize> + Numbered,

@@ -9,16 +9,16 @@ pub type Pair = (u64, u64);
 
 const GROUP: u64 = 500;
 
-/// The look-up of a number's key.
+/// Looks up the key of a number.
 struct Get;
 
-/// The look-up of a place of a group.
+/// Looks up the pair at an index in a group.
 struct At;
 
-/// The rank of a key in its group.
+/// Reads the rank of a key in its group.
 struct Rank;
 
-/// The first pair of a page of twenty, from a place of a group on.
+/// Reads the first pair of a page of twenty, from an index in a group on.
 struct Page;
 
 impl<T: Mapped<Pair>> Reads<T, u64> for Get {
@@ -34,8 +34,8 @@ where
 {
     #[inline(always)]
     fn call(&self, tree: &BPlusTree<S>, number: &u64) -> Option<u64> {
-        let place = (*number % GROUP) as usize;
-        match tree.get_by_argument((Tuple2(*number / GROUP), place)) {
+        let index = (*number % GROUP) as usize;
+        match tree.get_by_argument((Tuple2(*number / GROUP), index)) {
             Ok(Some((_, value))) => Some(*value),
             Ok(None) => Some(0),
             Err(_) => None,
@@ -71,7 +71,7 @@ impl<S: NodeStore<K = Pair, V = u64>> Reads<BPlusTree<S>, u64> for Page {
     }
 }
 
-// Puts the key of each number. Returns whether nothing was refused.
+// Inserts the key of each number. Returns whether no call failed.
 fn fill<T: Mapped<Pair>>(tree: &mut T, numbers: &[u64]) -> bool {
     for number in numbers {
         let key = (*number / GROUP, *number % GROUP);
@@ -97,7 +97,7 @@ where
         && read_each(report, "page", &Page, tree, numbers)
 }
 
-/// Fills a tree with groups, and reads it in another order. Returns whether nothing was refused.
+/// Fills a tree with groups, and reads it in another order. Returns whether no call failed.
 pub fn take<S: NodeStore<K = Pair, V = u64>>(report: Report<'_>, numbers: Numbers<'_>) -> bool
 where
     S::Argument: SearchArgument<Pair, Query = (Tuple2<u64>, usize)>,
@@ -105,7 +105,7 @@ where
 {
     match BPlusTree::<S>::made(report.rt.alloc()) {
         Ok(mut tree) => {
-            fill(&mut tree, numbers.places) && read_groups(report, &tree, numbers.again)
+            fill(&mut tree, numbers.indexes) && read_groups(report, &tree, numbers.again)
         }
         Err(_) => false,
     }

@@ -1,4 +1,4 @@
-//! A tree that is loaded at once: it is walked, cloned and drained.
+//! A tree that is bulk loaded: it is walked, cloned and drained.
 
 use crate::benchmark::numbers::Numbers;
 use crate::benchmark::ordered::step_through;
@@ -8,7 +8,7 @@ use sweep_bptree::argument::CloneArgument;
 use sweep_bptree::tree::in_load_order;
 use sweep_bptree::{BPlusTree, CloneStore, Cursor, NodeStore};
 
-/// Pairs of keys, each with itself as its value.
+/// Returns pairs of keys, each with itself as its value.
 pub fn pairs_of(alloc: Global, keys: &[u64]) -> Result<Vec<(u64, u64)>, AllocError> {
     let mut pairs = Vec::with_capacity(alloc, keys.len())?;
     for key in keys {
@@ -32,7 +32,7 @@ fn load_all<S: NodeStore<K = u64, V = u64>>(
     Ok(tree)
 }
 
-// A cursor goes from the first key to the last. Returns whether nothing was refused.
+// Moves a cursor from the first key to the last. Returns whether no call failed.
 #[inline(never)]
 fn walk_through<S: NodeStore<K = u64, V = u64>>(report: Report<'_>, tree: &BPlusTree<S>) -> bool {
     let clock = report.start("cursor");
@@ -54,7 +54,7 @@ fn walk_through<S: NodeStore<K = u64, V = u64>>(report: Report<'_>, tree: &BPlus
     true
 }
 
-// Clones a tree. Returns whether nothing was refused.
+// Clones a tree. Returns whether no call failed.
 fn clone_all<S: CloneStore<K = u64, V = u64>>(report: Report<'_>, tree: &BPlusTree<S>) -> bool
 where
     S::Argument: CloneArgument<u64>,
@@ -79,7 +79,7 @@ fn drain<S: NodeStore<K = u64, V = u64>>(report: Report<'_>, tree: BPlusTree<S>)
     clock.stop(many, sum);
 }
 
-// Walks and clones a tree. Returns whether nothing was refused.
+// Walks and clones a tree. Returns whether no call failed.
 fn read_loaded<S: CloneStore<K = u64, V = u64>>(report: Report<'_>, tree: &BPlusTree<S>) -> bool
 where
     S::Argument: CloneArgument<u64>,
@@ -89,7 +89,7 @@ where
     walked && clone_all(report, tree)
 }
 
-/// Loads a tree, reads it and drains it. Returns whether nothing was refused.
+/// Loads a tree, reads it and drains it. Returns whether no call failed.
 pub fn take<S: CloneStore<K = u64, V = u64>>(report: Report<'_>, numbers: Numbers<'_>) -> bool
 where
     S::Argument: CloneArgument<u64>,

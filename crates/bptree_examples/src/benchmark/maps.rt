@@ -1,4 +1,4 @@
-//! Calls of a map: what it has, its ends, and pairs that come or leave at once.
+//! Calls of a map: membership, its ends, and moves and removals of many pairs at once.
 
 use crate::benchmark::loaded::pairs_of;
 use crate::benchmark::numbers::Numbers;
@@ -8,13 +8,13 @@ use sweep_bptree::BPlusTreeMap;
 
 type Plain = BPlusTreeMap<u64, u64>;
 
-/// Whether a key is there.
+/// Tests whether a key is present.
 struct Contains;
 
-/// The pair with the least key leaves.
+/// Removes the pair with the least key.
 struct PopFirst;
 
-/// The pair with the greatest key leaves.
+/// Removes the pair with the greatest key.
 struct PopLast;
 
 impl Reads<Plain, u64> for Contains {
@@ -71,7 +71,7 @@ fn step_over_values(report: Report<'_>, map: &Plain) {
     clock.stop(map.len(), sum);
 }
 
-// The upper half of the pairs leaves, for each pair that moves.
+// Splits off the upper half of the pairs, and prints the time for each pair that moves.
 fn split_off(report: Report<'_>, map: &mut Plain, middle: u64) -> Option<Plain> {
     let clock = report.start("splitoff");
     let Ok(half) = map.split_off(&middle) else {
@@ -81,7 +81,7 @@ fn split_off(report: Report<'_>, map: &mut Plain, middle: u64) -> Option<Plain> 
     Some(half)
 }
 
-// It comes back.
+// Appends the half again, and prints the time for each pair that moves.
 fn append(report: Report<'_>, map: &mut Plain, half: &mut Plain) -> bool {
     let moved = half.len();
     let clock = report.start("append");
@@ -92,7 +92,7 @@ fn append(report: Report<'_>, map: &mut Plain, half: &mut Plain) -> bool {
     true
 }
 
-// Every second pair leaves, for each pair.
+// Removes every second pair, and prints the time for each pair.
 fn retain(report: Report<'_>, map: &mut Plain) -> bool {
     let many = map.len();
     let clock = report.start("retain");
@@ -103,7 +103,7 @@ fn retain(report: Report<'_>, map: &mut Plain) -> bool {
     true
 }
 
-// The pairs between two keys are removed, for each pair removed.
+// Removes the pairs between two keys, and prints the time for each pair removed.
 fn remove_range(report: Report<'_>, map: &mut Plain, lo: u64, hi: u64) -> bool {
     let clock = report.start("removerange");
     let Ok(gone) = map.remove_range(Some(&lo), Some(&hi)) else {
@@ -113,15 +113,15 @@ fn remove_range(report: Report<'_>, map: &mut Plain, lo: u64, hi: u64) -> bool {
     true
 }
 
-fn key_at(sorted: &[u64], place: usize) -> u64 {
-    match sorted.get(place) {
+fn key_at(sorted: &[u64], index: usize) -> u64 {
+    match sorted.get(index) {
         Some(key) => *key,
         None => 0,
     }
 }
 
-// The upper half of a map's pairs leaves and comes back, every second pair leaves, and of the others
-// the half in the middle.
+// Splits off the upper half of a map's pairs and appends it again. It then removes every second
+// pair, and of the others the half in the middle.
 fn move_pairs(report: Report<'_>, map: &mut Plain, sorted: &[u64]) -> bool {
     let many = sorted.len();
     let Some(mut half) = split_off(report, map, key_at(sorted, many / 2)) else {
@@ -147,7 +147,7 @@ fn read_and_pop(report: Report<'_>, map: &mut Plain, numbers: Numbers<'_>) -> bo
     change_each(report, "popfirst", &PopFirst, map, numbers.keys)
 }
 
-// Two maps of the keys: one is read, and both are emptied.
+// Makes two maps of the keys, reads one and empties both.
 fn read_and_empty(report: Report<'_>, numbers: Numbers<'_>) -> bool {
     let Ok(mut map) = made(report, numbers.keys) else {
         return false;
@@ -159,7 +159,7 @@ fn read_and_empty(report: Report<'_>, numbers: Numbers<'_>) -> bool {
         && change_each(report, "poplast", &PopLast, &mut other, numbers.keys)
 }
 
-/// The calls of maps that have the keys. Returns whether nothing was refused.
+/// Times the calls of maps that have the keys. Returns whether no call failed.
 pub fn take(report: Report<'_>, numbers: Numbers<'_>) -> bool {
     move_and_leave(report, numbers) && read_and_empty(report, numbers)
 }

@@ -1,4 +1,4 @@
-//! Pairs that come at once: those of another map and those of a vector.
+//! Many pairs that are inserted at once: those of another map and those of a vector.
 
 use crate::benchmark::numbers::Numbers;
 use crate::benchmark::timing::Report;
@@ -7,7 +7,8 @@ use sweep_bptree::BPlusTreeMap;
 
 type Plain = BPlusTreeMap<u64, u64>;
 
-// A map of every second key, with itself as its value: of those at even indexes, or at odd ones.
+// Returns a map of every second key with itself as its value: the keys at even indices, or at odd
+// ones.
 fn every_second(alloc: Global, sorted: &[u64], odd: bool) -> Result<Plain, AllocError> {
     let mut pairs = Vec::with_capacity(alloc, sorted.len())?;
     let mut is_next = !odd;
@@ -20,7 +21,8 @@ fn every_second(alloc: Global, sorted: &[u64], odd: bool) -> Result<Plain, Alloc
     BPlusTreeMap::from_iter(alloc, pairs)
 }
 
-// Two maps become one whose pairs come from both in turn, for each pair of both.
+// Appends a map to another whose pairs alternate with its own. Prints the time for each pair of
+// both.
 fn weave(report: Report<'_>, sorted: &[u64]) -> bool {
     let alloc = report.rt.alloc();
     let Ok(mut first) = every_second(alloc, sorted, false) else {
@@ -37,7 +39,7 @@ fn weave(report: Report<'_>, sorted: &[u64]) -> bool {
     true
 }
 
-// New pairs, with the even number below each of some odd keys.
+// Returns new pairs, with the even number below each of some odd keys.
 fn new_pairs(alloc: Global, keys: &[u64], many: usize) -> Result<Vec<(u64, u64)>, AllocError> {
     let mut pairs = Vec::with_capacity(alloc, many)?;
     for key in keys.iter().take(many) {
@@ -46,7 +48,7 @@ fn new_pairs(alloc: Global, keys: &[u64], many: usize) -> Result<Vec<(u64, u64)>
     Ok(pairs)
 }
 
-// New pairs are inserted one by one, for each of them.
+// Inserts new pairs one by one, and prints the time for each of them.
 fn insert_each(report: Report<'_>, call: &str, map: &mut Plain, pairs: Vec<(u64, u64)>) -> bool {
     let many = pairs.len();
     let clock = report.start(call);
@@ -59,7 +61,7 @@ fn insert_each(report: Report<'_>, call: &str, map: &mut Plain, pairs: Vec<(u64,
     true
 }
 
-// New pairs come all at once, for each of them.
+// Inserts new pairs in one call, and prints the time for each of them.
 fn extend(report: Report<'_>, call: &str, map: &mut Plain, pairs: Vec<(u64, u64)>) -> bool {
     let many = pairs.len();
     let clock = report.start(call);
@@ -70,7 +72,7 @@ fn extend(report: Report<'_>, call: &str, map: &mut Plain, pairs: Vec<(u64, u64)
     true
 }
 
-/// How new pairs come, and what that is called.
+/// A way to insert new pairs, and its name in a line.
 #[derive(Clone, Copy)]
 struct Coming<'a> {
     call: &'a str,
@@ -101,7 +103,7 @@ const COMINGS: [Coming<'static>; 4] = [
     },
 ];
 
-// One pair for a hundred that are there.
+// Inserts one pair for every hundred pairs of the map.
 fn grow(report: Report<'_>, numbers: Numbers<'_>, coming: Coming<'_>) -> bool {
     let alloc = report.rt.alloc();
     let Ok(mut map) = every_second(alloc, numbers.sorted, false) else {
@@ -120,7 +122,7 @@ fn grow(report: Report<'_>, numbers: Numbers<'_>, coming: Coming<'_>) -> bool {
     }
 }
 
-/// Pairs come at once. Returns whether nothing was refused.
+/// Times insertions of many pairs. Returns whether no call failed.
 pub fn take(report: Report<'_>, numbers: Numbers<'_>) -> bool {
     for coming in COMINGS {
         if !grow(report, numbers, coming) {

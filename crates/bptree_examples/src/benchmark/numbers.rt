@@ -2,17 +2,17 @@
 
 use std::alloc::{AllocError, Global};
 
-/// The same keys in three orders, and all numbers below their number in two.
+/// The same keys in three orders, and all numbers below their number in two orders.
 #[derive(Clone, Copy)]
 pub struct Numbers<'a> {
     pub keys: &'a [u64],
     pub others: &'a [u64],
     pub sorted: &'a [u64],
-    pub places: &'a [u64],
+    pub indexes: &'a [u64],
     pub again: &'a [u64],
 }
 
-/// The number after another one: each is made of the one before by shifts.
+/// Returns the number after another one, which is made of it by shifts.
 pub fn next_number(state: u64) -> u64 {
     let mut next = state;
     next ^= next << 13;
@@ -21,7 +21,7 @@ pub fn next_number(state: u64) -> u64 {
     next
 }
 
-/// Odd numbers in random order, of which hardly two are equal.
+/// Returns odd numbers in random order, of which few are equal.
 pub fn odd_numbers(alloc: Global, many: usize) -> Result<Vec<u64>, AllocError> {
     let mut numbers = Vec::with_capacity(alloc, many)?;
     let mut state = 0x9e37_79b9_7f4a_7c15;
@@ -32,7 +32,7 @@ pub fn odd_numbers(alloc: Global, many: usize) -> Result<Vec<u64>, AllocError> {
     Ok(numbers)
 }
 
-/// All numbers below one, in order.
+/// Returns all numbers below `many`, in order.
 pub fn numbers_below(alloc: Global, many: usize) -> Result<Vec<u64>, AllocError> {
     let mut numbers = Vec::with_capacity(alloc, many)?;
     for number in 0..many {
@@ -41,20 +41,20 @@ pub fn numbers_below(alloc: Global, many: usize) -> Result<Vec<u64>, AllocError>
     Ok(numbers)
 }
 
-/// Brings numbers into another order.
+/// Shuffles numbers.
 pub fn shuffle(numbers: &mut [u64]) {
     let mut state = 0x2545_f491_4f6c_dd1d;
     let many = numbers.len();
     for i in 1..many {
         state = next_number(state);
-        let place = (state % (i as u64 + 1)) as usize;
-        if place < numbers.len() && i < numbers.len() {
-            numbers.swap(i, place);
+        let index = (state % (i as u64 + 1)) as usize;
+        if index < numbers.len() && i < numbers.len() {
+            numbers.swap(i, index);
         }
     }
 }
 
-/// The same numbers in another order.
+/// Returns the numbers in another order.
 pub fn shuffled(alloc: Global, numbers: &[u64]) -> Result<Vec<u64>, AllocError> {
     let mut others = numbers.to_vec(alloc)?;
     shuffle(&mut others);

@@ -9,13 +9,13 @@ use sweep_bptree::{BPlusTree, Key, NodeStore};
 
 /// A map from keys to numbers.
 pub trait Mapped<K>: Drop + Sized {
-    /// One with no pair.
+    /// Makes a map without pairs.
     fn made(alloc: Global) -> Result<Self, AllocError>;
 
-    /// The value at a key, or 0.
+    /// Returns the value at a key, or 0.
     fn read(&self, key: &K) -> u64;
 
-    /// Puts a pair. Returns 1 if the key was there and 0 if not, or `None` for a failure.
+    /// Inserts a pair. Returns 1 if the key was present and 0 if not, or `None` if the call failed.
     fn put(&mut self, key: K, value: u64) -> Option<u64>;
 
     fn number_of_pairs(&self) -> usize;
@@ -23,10 +23,10 @@ pub trait Mapped<K>: Drop + Sized {
 
 /// A map whose keys are numbers in an order.
 pub trait Ordered: Mapped<u64> {
-    /// The first key that is not below one, or 0.
+    /// Returns the first key that is not below `key`, or 0.
     fn first_from(&self, key: u64) -> u64;
 
-    /// Removes a key. Returns its value, or 0 if it was not there, or `None` for a failure.
+    /// Removes a key. Returns its value, or 0 if the key was absent, or `None` if the call failed.
     fn take(&mut self, key: &u64) -> Option<u64>;
 
     fn sum_of_keys(&self) -> u64;
@@ -150,19 +150,19 @@ impl Ordered for BTreeMap<u64, u64> {
     }
 }
 
-/// The look-up of a key that is there.
+/// Looks up a key that is present.
 pub struct Get;
 
-/// The look-up of the even number below an odd key.
+/// Looks up the even number below an odd key.
 pub struct Absent;
 
-/// The first pair that is not below the even number below an odd key.
+/// Reads the first pair that is not below the even number below an odd key.
 pub struct Lower;
 
-/// The insertion of a key with itself as its value.
+/// Inserts a key with itself as its value.
 pub struct Insert;
 
-/// The removal of a key.
+/// Removes a key.
 pub struct Remove;
 
 impl<K, T: Mapped<K>> Reads<T, K> for Get {
@@ -208,7 +208,7 @@ pub fn step_through<T: Ordered>(report: Report<'_>, name: &str, map: &T) {
     clock.stop(map.number_of_pairs(), sum);
 }
 
-/// Fills a map with the keys and reads it. Returns whether nothing was refused.
+/// Fills a map with the keys and reads it. Returns whether no call failed.
 pub fn fill_and_read<T: Ordered>(report: Report<'_>, map: &mut T, numbers: Numbers<'_>) -> bool {
     if !change_each(report, "insert", &Insert, map, numbers.keys) {
         return false;
@@ -220,12 +220,12 @@ pub fn fill_and_read<T: Ordered>(report: Report<'_>, map: &mut T, numbers: Numbe
     read_each(report, "lower", &Lower, map, numbers.others)
 }
 
-/// Removes all keys. Returns whether nothing was refused.
+/// Removes all keys. Returns whether no call failed.
 pub fn empty<T: Ordered>(report: Report<'_>, map: &mut T, numbers: Numbers<'_>) -> bool {
     change_each(report, "remove", &Remove, map, numbers.others)
 }
 
-/// Fills another map in the order of the keys. Returns whether nothing was refused.
+/// Fills another map in the order of the keys. Returns whether no call failed.
 pub fn fill_upward<T: Ordered>(report: Report<'_>, numbers: Numbers<'_>) -> bool {
     match T::made(report.rt.alloc()) {
         Ok(mut map) => change_each(report, "upward", &Insert, &mut map, numbers.sorted),
@@ -233,7 +233,7 @@ pub fn fill_upward<T: Ordered>(report: Report<'_>, numbers: Numbers<'_>) -> bool
     }
 }
 
-/// Fills a map, reads it and empties it. Returns whether nothing was refused.
+/// Fills a map, reads it and empties it. Returns whether no call failed.
 pub fn take<T: Ordered>(report: Report<'_>, numbers: Numbers<'_>) -> bool {
     match T::made(report.rt.alloc()) {
         Ok(mut map) => {

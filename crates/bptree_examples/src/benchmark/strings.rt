@@ -1,4 +1,4 @@
-//! Keys whose bytes are in memory of their own: strings, each of which has 1 as its value.
+//! Keys whose bytes are in memory of their own: strings, each with 1 as its value.
 
 use crate::benchmark::numbers::Numbers;
 use crate::benchmark::ordered::{Get, Mapped};
@@ -27,7 +27,7 @@ impl Text for Headed<String> {
     }
 }
 
-/// The keys of a run: what is in front of the digits of each, and the names of its two calls.
+/// The keys of a run: the text before the digits of each key, and the names of the two calls.
 #[derive(Clone, Copy)]
 pub struct Form<'a> {
     pub front: &'a str,
@@ -35,7 +35,7 @@ pub struct Form<'a> {
     pub get: &'a str,
 }
 
-// Sixteen hexadecimal digits of a number behind the same front.
+// Returns a text with the sixteen hexadecimal digits of a number behind a front.
 fn text_of(alloc: Global, front: &str, number: u64) -> Result<String, AllocError> {
     let mut text = String::with_capacity(alloc, 32)?;
     text.push_str(front)?;
@@ -55,7 +55,7 @@ fn texts_of<K: Text>(alloc: Global, front: &str, numbers: &[u64]) -> Result<Vec<
     Ok(texts)
 }
 
-// Puts texts. Returns whether no allocation failed.
+// Inserts texts. Returns whether no allocation failed.
 fn insert_texts<K: Text, T: Mapped<K>>(
     report: Report<'_>,
     name: &str,
@@ -100,7 +100,7 @@ fn take_wanted<K: Text, T: Mapped<K>>(
     }
 }
 
-/// Puts the texts of the keys, and looks them up in another order. Returns whether no allocation
+/// Inserts the texts of the keys, and looks them up in another order. Returns whether no allocation
 /// failed.
 pub fn take<K: Text, T: Mapped<K>>(
     report: Report<'_>,

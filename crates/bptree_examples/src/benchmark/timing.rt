@@ -1,29 +1,29 @@
-//! The loop that makes one call with each of many keys, and the line that its time makes.
+//! The loop that makes one call with each of many keys, and the line with its time.
 
 use std::time::Instant;
 
 /// A call that reads.
 pub trait Reads<T, K> {
-    /// Makes the call with a key. Returns what it adds to the sum of a line, or `None` for a
-    /// failure.
+    /// Makes the call with a key. Returns what the call adds to the sum of a line, or `None` if it
+    /// failed.
     fn call(&self, subject: &T, key: &K) -> Option<u64>;
 }
 
-/// A call that changes what is called.
+/// A call that changes its subject.
 pub trait Changes<T, K> {
-    /// Makes the call with a key. Returns what it adds to the sum of a line, or `None` for a
-    /// failure.
+    /// Makes the call with a key. Returns what the call adds to the sum of a line, or `None` if it
+    /// failed.
     fn call(&self, subject: &mut T, key: &K) -> Option<u64>;
 }
 
-/// Where the times of one kind of tree go.
+/// The output for the times of one kind of tree.
 #[derive(Clone, Copy)]
 pub struct Report<'a> {
     pub rt: &'a HostRuntime,
     pub kind: &'a str,
 }
 
-/// The start of calls of one name.
+/// The start time of calls of one name.
 #[derive(Clone, Copy)]
 pub struct Clock<'a> {
     report: Report<'a>,
@@ -32,7 +32,7 @@ pub struct Clock<'a> {
 }
 
 impl<'a> Report<'a> {
-    /// Notes the time before calls.
+    /// Records the time before the calls.
     pub fn start(self, call: &'a str) -> Clock<'a> {
         Clock {
             report: self,
@@ -43,7 +43,7 @@ impl<'a> Report<'a> {
 }
 
 impl Clock<'_> {
-    /// Prints the line of so many calls, which end now, with the sum of their answers.
+    /// Prints the line of this number of calls, which end now, with the sum of their results.
     pub fn stop(self, calls: usize, sum: u64) {
         let Some(start) = self.start else {
             return;
@@ -56,7 +56,7 @@ impl Clock<'_> {
     }
 }
 
-/// Makes a call with each key. Returns whether none was refused.
+/// Makes a call with each key. Returns whether no call failed.
 pub fn read_each<T, K, C: Reads<T, K>>(
     report: Report<'_>,
     name: &str,
@@ -76,7 +76,7 @@ pub fn read_each<T, K, C: Reads<T, K>>(
     true
 }
 
-/// Makes a change with each key. Returns whether none was refused.
+/// Makes a change with each key. Returns whether no call failed.
 pub fn change_each<T, K, C: Changes<T, K>>(
     report: Report<'_>,
     name: &str,

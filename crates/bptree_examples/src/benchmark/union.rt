@@ -5,22 +5,22 @@ use crate::benchmark::timing::Report;
 use std::alloc::{AllocError, Global};
 use sweep_bptree::BPlusTreeSet;
 
-// Every second key, from a place on, and every fourth.
+// Returns the set of every second key, from an index on, and of every fourth key.
 fn every_second(
     alloc: Global,
     sorted: &[u64],
     first: usize,
 ) -> Result<BPlusTreeSet<u64>, AllocError> {
     let mut keys = Vec::with_capacity(alloc, sorted.len())?;
-    for (place, key) in sorted.iter().enumerate() {
-        if place % 2 == first || place % 4 == 0 {
+    for (index, key) in sorted.iter().enumerate() {
+        if index % 2 == first || index % 4 == 0 {
             keys.push(*key)?;
         }
     }
     BPlusTreeSet::from_iter(alloc, keys)
 }
 
-// The sum of the keys of the union of two sets, and how many there are.
+// Returns the sum of the keys of the union of two sets, and their number.
 #[inline(never)]
 fn sum_of_union(first: &BPlusTreeSet<u64>, second: &BPlusTreeSet<u64>) -> (u64, usize) {
     let mut sum = 0u64;
@@ -38,7 +38,7 @@ fn print_union(report: Report<'_>, first: &BPlusTreeSet<u64>, second: &BPlusTree
     clock.stop(many, sum);
 }
 
-// The union of a set with every second key.
+// Times the union of a set with every second key.
 fn union_with(report: Report<'_>, sorted: &[u64], first: &BPlusTreeSet<u64>) -> bool {
     match every_second(report.rt.alloc(), sorted, 1) {
         Ok(second) => {
@@ -49,8 +49,8 @@ fn union_with(report: Report<'_>, sorted: &[u64], first: &BPlusTreeSet<u64>) -> 
     }
 }
 
-/// The union of two sets that have a quarter of all keys in common, for each key of the union.
-/// Returns whether nothing was refused.
+/// Times the union of two sets that have a quarter of all keys in common, for each key of the
+/// union. Returns whether no call failed.
 pub fn take(report: Report<'_>, numbers: Numbers<'_>) -> bool {
     match every_second(report.rt.alloc(), numbers.sorted, 0) {
         Ok(first) => union_with(report, numbers.sorted, &first),

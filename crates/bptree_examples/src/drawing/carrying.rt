@@ -1,16 +1,16 @@
-//! What a line does to the map that is drawn.
+//! Changes the map that is drawn, as a line requests.
 ghost use Rattle.std.specs.Prelude.{◌≡◌, Some, OnOk, OnErr};
-ghost use Rattle.bptree_requests.specs.Request.{request_of};
-ghost use Rattle.bptree_script.specs.Answers.{pairs_with, pairs_with_put};
+ghost use Rattle.bptree_protocol.specs.Request.{request_of};
+ghost use Rattle.bptree_commands.specs.ReplyLists.{pairs_with, pairs_with_put};
 
-use bptree_requests::{Request, read_request};
+use bptree_protocol::{Request, read_request};
 use std::alloc::AllocError;
 use sweep_bptree::{BPlusTreeMap, Count, InsertError};
 
-// Puts a pair; in a map with no place for a new key nothing changes.
+// Puts a pair. If the map is full for a new key, nothing changes.
 fn put(map: &mut BPlusTreeMap<u64, u64, Count>, key: u64, value: u64) -> Result<(), AllocError>
     ensures pairs { OnOk result (map.new ≡ pairs_with_put map.old key value) }
-    ensures refused { OnErr result (map.new ≡ map.old) }
+    ensures unchanged { OnErr result (map.new ≡ map.old) }
 {
     match map.insert(key, value) {
         Ok(_) => Ok(()),
@@ -21,7 +21,7 @@ fn put(map: &mut BPlusTreeMap<u64, u64, Count>, key: u64, value: u64) -> Result<
 
 fn change(map: &mut BPlusTreeMap<u64, u64, Count>, request: Request) -> Result<(), AllocError>
     ensures pairs { OnOk result (map.new ≡ pairs_with map.old (Some request)) }
-    ensures refused { OnErr result (map.new ≡ map.old) }
+    ensures unchanged { OnErr result (map.new ≡ map.old) }
 {
     match request {
         Request::Put(key, value) => put(map, key, value),
@@ -45,11 +45,12 @@ fn change(map: &mut BPlusTreeMap<u64, u64, Count>, request: Request) -> Result<(
     }
 }
 
-/// Carries out what a line asks of a map, which puts a pair, removes one or clears the map. What is
-/// asked else changes nothing. Answers whether the line asks for something.
+/// Carries out the request of a line, which puts a pair, removes one or clears the map. Other
+/// requests change nothing. Returns whether the line is a request. If an allocation fails, the map
+/// is unchanged.
 pub fn carry_out(map: &mut BPlusTreeMap<u64, u64, Count>, line: &[u8]) -> Result<bool, AllocError>
     ensures pairs { OnOk result (map.new ≡ pairs_with map.old (request_of line.now)) }
-    ensures refused { OnErr result (map.new ≡ map.old) }
+    ensures unchanged { OnErr result (map.new ≡ map.old) }
 {
     match read_request(line) {
         Some(request) => {

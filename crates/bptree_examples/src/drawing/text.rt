@@ -1,8 +1,8 @@
-//! A text that grows by parts.
+//! A text that is built of parts.
 
 use std::alloc::{AllocError, Global};
 
-/// A text. If an allocation fails, it notes that, and is not whole from then on.
+/// A text. If an allocation fails, the text records this, and is not whole from then on.
 #[derive(Drop)]
 pub struct Text {
     alloc: Global,
@@ -11,7 +11,7 @@ pub struct Text {
 }
 
 impl Text {
-    /// A text with nothing in it.
+    /// Makes an empty text.
     pub fn new(alloc: Global) -> Text {
         Text {
             alloc,
@@ -41,7 +41,7 @@ impl Text {
         self.is_whole = self.is_whole && other.is_whole;
     }
 
-    /// The whole text. An error says that memory was refused.
+    /// Returns the whole text. Fails if an allocation has failed.
     pub fn finish(self) -> Result<String, AllocError> {
         if self.is_whole {
             Ok(self.text)

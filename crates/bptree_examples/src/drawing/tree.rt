@@ -1,4 +1,4 @@
-//! A tree as text for Graphviz, by the nodes that its store lends.
+//! A tree as text for Graphviz, read from the nodes of its store.
 ghost use Rattle.std.specs.Prelude.{◌≤◌};
 
 use crate::drawing::text::Text;
@@ -6,11 +6,11 @@ use std::alloc::{AllocError, Global};
 use sweep_bptree::tree::{InnerNode, InnerNodeId, LeafNodeId, NodeId};
 use sweep_bptree::{BPlusTree, Count, NodeStore};
 
-/// How many of the first keys, or children, of a long node are drawn, and how many of its last.
+/// The number of the first keys or children of a long node that are drawn, and of the last.
 const ENDS: usize = 2;
 
-// The part of a node that is left out: where it begins, and where what follows it begins. Of a
-// short node nothing is left out.
+// Returns the part of a node that is left out: its first index, and the index behind it. Of a short
+// node nothing is left out.
 fn left_out(len: usize) -> (usize, usize)
     ensures order { result.0 ≤ result.1 }
     ensures within { result.1 ≤ len }
@@ -21,10 +21,10 @@ fn left_out(len: usize) -> (usize, usize)
     (ENDS, len - ENDS)
 }
 
-// Whether a child at a place is drawn.
-fn is_drawn(place: usize, len: usize) -> bool {
+// Whether the child at an index is drawn.
+fn is_drawn(index: usize, len: usize) -> bool {
     let (from, to) = left_out(len);
-    place < from || to <= place
+    index < from || to <= index
 }
 
 // Adds keys, with a space before each.
@@ -34,7 +34,7 @@ fn add_keys(text: &mut Text, keys: &[u64]) {
     }
 }
 
-// Adds the first and the last of some keys, and how many there are.
+// Adds the first and the last of some keys, and their number.
 fn add_ends(text: &mut Text, keys: &[u64]) {
     let (from, to) = left_out(keys.len());
     add_keys(text, &keys[..from]);
@@ -52,13 +52,13 @@ fn add_leaf(text: &mut Text, id: LeafNodeId, keys: &[u64]) {
     text.add("\"]\n");
 }
 
-// Adds the fields of the children from one place on, up to another, and behind each the separator
+// Adds the fields of the children from one index up to another. Behind each field is the separator
 // before the next child.
 fn add_fields(text: &mut Text, node: &InnerNode<u64, Count>, from: usize, to: usize) {
-    for place in from..to {
-        text.add_number("<c", place, "> ");
-        if place < node.len() {
-            text.add_number("| ", *node.key(place) as usize, " |");
+    for index in from..to {
+        text.add_number("<c", index, "> ");
+        if index < node.len() {
+            text.add_number("| ", *node.key(index) as usize, " |");
         }
     }
 }
@@ -81,9 +81,9 @@ fn add_inner(text: &mut Text, id: InnerNodeId, node: &InnerNode<u64, Count>) {
 }
 
 // Adds the line from a node to a child, with the child's count.
-fn add_edge(text: &mut Text, id: InnerNodeId, place: usize, child: NodeId, count: usize) {
+fn add_edge(text: &mut Text, id: InnerNodeId, index: usize, child: NodeId, count: usize) {
     text.add_number("  inner", id.as_usize(), ":c");
-    text.add_number("", place, " -> ");
+    text.add_number("", index, " -> ");
     match child {
         NodeId::Leaf(leaf) => text.add_number("leaf", leaf.as_usize(), " [label=\""),
         NodeId::Inner(inner) => text.add_number("inner", inner.as_usize(), " [label=\""),
@@ -91,8 +91,8 @@ fn add_edge(text: &mut Text, id: InnerNodeId, place: usize, child: NodeId, count
     text.add_number("", count, "\"]\n");
 }
 
-// What is drawn of a tree: its nodes, and the links between leaves; and the leaf that was drawn
-// last, with the leaf behind it.
+// The parts of a drawing: the nodes, the links between leaves, and the leaf that was drawn last,
+// with the leaf behind it.
 #[derive(Drop)]
 struct Drawing {
     nodes: Text,
@@ -101,8 +101,8 @@ struct Drawing {
 }
 
 impl Drawing {
-    // Adds a leaf, and the link to it from the one that was drawn before: dotted where leaves
-    // between the two are left out.
+    // Adds a leaf, and the link to it from the leaf that was drawn before. The link is dotted if
+    // leaves between the two are left out.
     fn add_leaf(&mut self, id: LeafNodeId, next: Option<LeafNodeId>, keys: &[u64]) {
         add_leaf(&mut self.nodes, id, keys);
         if let Some((left, behind)) = self.last {
@@ -118,7 +118,7 @@ impl Drawing {
     }
 }
 
-// Adds the tree of a height under a number.
+// Adds the tree of a height below a node id.
 fn add_subtree<S: NodeStore<K = u64, Argument = Count>>(
     drawing: &mut Drawing,
     store: &S,
@@ -137,25 +137,25 @@ fn add_subtree<S: NodeStore<K = u64, Argument = Count>>(
     let Some(node) = store.try_get_inner(inner) else {
         return;
     };
-    // Never met in a tree: each of its inner nodes stands above a leaf, and has a key.
+    // Never met in a tree: each inner node is above the leaves, and has a key.
     if height == 0 || node.len() == 0 {
         return;
     }
     add_inner(&mut drawing.nodes, inner, node);
-    for place in 0..node.len() + 1 {
-        if is_drawn(place, node.len() + 1) {
-            let child = node.child_id(place);
+    for index in 0..node.len() + 1 {
+        if is_drawn(index, node.len() + 1) {
+            let child = node.child_id(index);
             add_subtree(drawing, store, child, height - 1);
-            if let Some(count) = node.arguments().get(place) {
-                add_edge(&mut drawing.nodes, inner, place, child, count.count());
+            if let Some(count) = node.arguments().get(index) {
+                add_edge(&mut drawing.nodes, inner, index, child, count.count());
             }
         }
     }
 }
 
-/// The text of a tree: a row of separators for each inner node, a box for each leaf, and the count
-/// of each child beside the line to it. Of a long node the first and the last keys or children are
-/// drawn, with a number for the others.
+/// Returns the text of a tree: a row of separators for each inner node, a box for each leaf, and
+/// the count of each child beside the line to it. Of a long node the first and the last keys or
+/// children are drawn, with the number of the others. Fails if an allocation fails.
 pub fn text_of<S: NodeStore<K = u64, Argument = Count>>(
     alloc: Global,
     tree: &BPlusTree<S>,

@@ -12,15 +12,15 @@ use sweep_bptree::{Argument, BPlusTreeMap};
 #[derive(Clone, Copy, Default)]
 pub struct EvenCount(pub usize);
 
-// How many keys are even.
+// Returns the number of even keys.
 fn evens_in(keys: &[u64]) -> usize
     ensures { result ≡ length (filter (λ key. nat_eq (key % 2) 0) keys.now) }
 {
     keys.iter().filter(|key| **key % 2 == 0).count()
 }
 
-/// No memory is asked for, so nothing fails. The sum stops at the greatest `usize`, which no list
-/// of keys is longer than.
+/// Nothing allocates, so that no call fails. The sum saturates at the greatest `usize`, and no list
+/// of keys is longer than that.
 impl Argument<u64> for EvenCount {
     ghost is_summary = { λ count keys. count.0 ≡ length (filter (λ key. nat_eq (key % 2) 0) keys) };
 
@@ -42,7 +42,7 @@ impl Argument<u64> for EvenCount {
 /// Numbers, each with itself as its value.
 pub type Numbers = BPlusTreeMap<u64, u64, EvenCount>;
 
-/// The numbers below one, put in upward.
+/// Returns the numbers below `end`, inserted in ascending order.
 pub fn numbers_below(alloc: Global, end: u64) -> Result<Numbers, AllocError> {
     let mut pairs = Vec::new(alloc);
     for number in 0..end {
@@ -51,7 +51,7 @@ pub fn numbers_below(alloc: Global, end: u64) -> Result<Numbers, AllocError> {
     filled(alloc, &pairs)
 }
 
-/// Removes every second number below one, from a first one on.
+/// Removes every second number from `from` on and below `end`.
 pub fn remove_each_second(numbers: &mut Numbers, from: u64, end: u64) -> Result<(), AllocError> {
     for number in from..end {
         if number % 2 == from % 2 {
@@ -61,15 +61,15 @@ pub fn remove_each_second(numbers: &mut Numbers, from: u64, end: u64) -> Result<
     Ok(())
 }
 
-/// How many even numbers are there, in constant time.
+/// Returns how many numbers are even. O(1). It allocates nothing and cannot fail.
 pub fn even_count(numbers: &Numbers) -> usize
     ensures { result ≡ length (filter (λ key. nat_eq (key % 2) 0) (keys_of numbers.now)) }
 {
     numbers.root_argument().0
 }
 
-/// How many of the numbers below 100,000 are even: of all, with the first hundred even ones
-/// removed, and with the first hundred odd ones removed too.
+/// Counts the even numbers below 100,000: of all numbers, after the first hundred even ones are
+/// removed, and after the first hundred odd ones are removed too.
 pub fn run(alloc: Global) -> Result<(usize, usize, usize), AllocError> {
     let mut numbers = numbers_below(alloc, 100_000)?;
     counts(&mut numbers)

@@ -11,7 +11,7 @@ pub fn is_leap_year(year: u16) -> bool
     year % 4 == 0 && (year % 100 != 0 || year % 400 == 0)
 }
 
-/// The number of days of a month. January is 1; a number that is no month has 30.
+/// Returns the number of days of a month. January is 1. A number that is no month has 30.
 pub fn day_count(year: u16, month: u8) -> u8
     ensures long { IsLongMonth month → result ≡ 31 }
     ensures short { IsShortMonth month → result ≡ 30 }
@@ -37,7 +37,7 @@ pub fn leap_years() -> [bool; 6] {
     ]
 }
 
-/// How long February is in 2000, 2020, 1900 and 2021.
+/// Returns the length of February in 2000, 2020, 1900 and 2021.
 pub fn days_of_february() -> [u8; 4] {
     [
         day_count(2000, 2),
@@ -47,7 +47,7 @@ pub fn days_of_february() -> [u8; 4] {
     ]
 }
 
-/// How long each month of a year is.
+/// Returns the length of each month of a year.
 pub fn days_of_months(alloc: Global, year: u16) -> Result<Vec<u8>, AllocError> {
     let mut days = Vec::new(alloc);
     for month in 1..13 {

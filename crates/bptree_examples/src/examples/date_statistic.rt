@@ -1,10 +1,10 @@
-//! How many keys of a calendar lie in a year, by summaries that know the first and the last date
-//! below a node.
+//! The number of keys of a calendar in a year, by summaries with the first and the last date below
+//! a node.
 ghost use Rattle.std.specs.Prelude.{◌≡◌, Some, IfOk, IfErr};
 ghost use Rattle.bptree_arguments.specs.declared.visit.DescendError.TheVariants.{OutOfMemory};
 ghost use Rattle.std.specs.Map.{keys_of};
 ghost use Rattle.std.proofs.Common.{rules};
-ghost use Rattle.bptree_examples.specs.Dates.{day_with, in_year, month_with, year_with, IsEntry, IsStatistic, IsYearAnswer};
+ghost use Rattle.bptree_examples.specs.Dates.{day_with, in_year, month_with, year_with, IsEntry, IsStatistic, IsYearResult};
 
 use crate::examples::calendar::day_count;
 use crate::filling::{filled, removed};
@@ -23,7 +23,7 @@ impl Key for Date {
     ghost clone_is_equal = { Prim.search rules };
 }
 
-/// How many keys share the year of a date, its month and its day.
+/// The numbers of keys that share the year, the month and the day of a date.
 #[derive(Clone, Copy, Default)]
 pub struct Counter {
     pub year: usize,
@@ -47,8 +47,8 @@ pub struct DateStatisticArgument {
 }
 
 impl Counter {
-    // With the counters of an entry added, as far as its date shares the year of a date, its month
-    // and its day.
+    // Returns the counters with those of an entry added, as far as the entry's date shares the
+    // year, the month and the day of `date`.
     fn with(self, date: Date, entry: &DateStatisticEntry) -> Counter
         ensures year { result.year ≡ year_with self date entry.now }
         ensures month { result.month ≡ month_with self date entry.now }
@@ -79,7 +79,7 @@ impl Counter {
     }
 }
 
-// A date, with its counters over some dates.
+// Returns a date with its counters over some dates.
 fn counted(date: Date, dates: &[Date]) -> DateStatisticEntry
     ensures date { result.date ≡ date }
     ensures entry { IsEntry dates.now result }
@@ -99,12 +99,12 @@ fn counted(date: Date, dates: &[Date]) -> DateStatisticEntry
     DateStatisticEntry { date, counter }
 }
 
-/// No memory is asked for, so nothing fails. Each sum stops at the greatest `usize`, which no list
-/// of keys is longer than.
+/// Nothing allocates, so that no call fails. Each sum saturates at the greatest `usize`, and no
+/// list of keys is longer than that.
 impl Argument<Date> for DateStatisticArgument {
     ghost is_summary = { IsStatistic };
 
-    /// Two passes over the keys; of no keys the default.
+    /// Makes two passes over the keys. The summary of no keys is the default.
     fn from_leaf(keys: &[Date]) -> Result<Self, AllocError> {
         if keys.is_empty() {
             return Ok(DateStatisticArgument::default());
@@ -115,7 +115,7 @@ impl Argument<Date> for DateStatisticArgument {
         })
     }
 
-    /// One pass over the summaries; of no summaries the default.
+    /// Makes one pass over the summaries. The summary of no summaries is the default.
     fn from_inner(_keys: &[Date], arguments: &[Self]) -> Result<Self, AllocError> {
         if arguments.is_empty() {
             return Ok(DateStatisticArgument::default());
@@ -143,7 +143,8 @@ impl Argument<Date> for DateStatisticArgument {
     ghost default_is_summary = { λ a h. Prim.search rules };
 }
 
-/// Counts the keys of one year. It returns 0 if there is none, and stops at the greatest `usize`.
+/// Counts the keys of one year. The count is 0 if there is no key, and saturates at the greatest
+/// `usize`.
 #[derive(Drop)]
 pub struct CountForYear {
     pub year: u16,
@@ -151,7 +152,7 @@ pub struct CountForYear {
 }
 
 impl CountForYear {
-    /// A visitor that has counted no key yet.
+    /// Makes a visitor that has counted no key yet.
     pub fn new(year: u16) -> Self
         ensures year { result.year ≡ year }
         ensures counted { result.counted ≡ 0 }
@@ -160,7 +161,7 @@ impl CountForYear {
     }
 }
 
-// How many dates lie in a year.
+// Returns the number of dates in a year.
 fn dates_in(year: u16, dates: &[Date]) -> usize
     ensures { result ≡ in_year year dates.now }
 {
@@ -170,11 +171,11 @@ fn dates_in(year: u16, dates: &[Date]) -> usize
 impl<V> DescendVisit<Date, V, DateStatisticArgument> for CountForYear {
     type Result = usize;
 
-    ghost answers = { λ v pairs answer. IsYearAnswer v.year v.counted (keys_of pairs) answer };
+    ghost outcomes = { λ v pairs outcome. IsYearResult v.year v.counted (keys_of pairs) outcome };
 
-    /// At most four comparisons of years a child, up to the year. It goes down only into a child
-    /// that has keys on both sides of the year's beginning or of its end. Of a summary whose last
-    /// date is before its first it returns nothing.
+    /// Makes at most four comparisons of years for each child, up to the year. The visitor goes
+    /// down only into a child that has keys on both sides of the year's beginning or of its end. If
+    /// the last date of a summary is before its first, it cancels the visit.
     fn visit_inner(
         &mut self,
         _keys: &[Date],
@@ -204,17 +205,17 @@ impl<V> DescendVisit<Date, V, DateStatisticArgument> for CountForYear {
         Ok(DescendVisitResult::Complete(counted))
     }
 
-    /// One pass over the keys.
+    /// Makes one pass over the keys.
     fn visit_leaf(&mut self, keys: &[Date], _values: &[V]) -> Result<Option<usize>, AllocError> {
         let here = dates_in(self.year, keys);
         Ok(Some(self.counted.saturating_add(here)))
     }
 }
 
-/// Dates as keys, with no values.
+/// Dates as keys, without values.
 pub type Calendar = BPlusTreeMap<Date, (), DateStatisticArgument>;
 
-/// A calendar of each day of some years.
+/// Returns a calendar with each day from year `from` on, up to year `to`.
 pub fn each_day(alloc: Global, from: u16, to: u16) -> Result<Calendar, AllocError> {
     let mut days = Vec::new(alloc);
     for year in from..to {
@@ -227,13 +228,13 @@ pub fn each_day(alloc: Global, from: u16, to: u16) -> Result<Calendar, AllocErro
     filled(alloc, &days)
 }
 
-/// How many dates of a year are there.
+/// Returns the number of dates of a year.
 ///
-/// It needs a map that keeps `DateStatisticArgument`, and `descend_visit`, which sees one node a
-/// level and allocates nothing. No call is refused.
+/// The map keeps `DateStatisticArgument`, and `descend_visit` reads one node on each level, in
+/// O(log n). It allocates nothing, and no call fails.
 pub fn days_of(calendar: &Calendar, year: u16) -> Result<Option<usize>, DescendError>
     ensures counted { IfOk result (λ days. days ≡ Some (in_year year (keys_of calendar.now))) }
-    ensures refused { IfErr result (λ error. error ≡ OutOfMemory) }
+    ensures unchanged { IfErr result (λ error. error ≡ OutOfMemory) }
 {
     calendar.recall();
     calendar.descend_visit(CountForYear::new(year))
@@ -246,8 +247,8 @@ fn counted_days(calendar: &Calendar, year: u16) -> Result<usize, AllocError> {
     }
 }
 
-/// The days of 2011 to 2020: of all these years, of 2011, 2012, 2020 and 2021, and of 2011 once
-/// three are removed.
+/// Counts the days of 2011 to 2020: of all these years, of 2011, 2012, 2020 and 2021, and of 2011
+/// after three days are removed.
 pub fn run(alloc: Global) -> Result<(usize, [usize; 4], usize), AllocError> {
     let mut calendar = each_day(alloc, 2011, 2021)?;
     counts(&mut calendar)

@@ -21,16 +21,16 @@ fn is_there(alloc: Global, words: &Words, word: &str) -> Result<bool, AllocError
     Ok(words.contains(&headed(alloc, word)?))
 }
 
-fn answers(alloc: Global, words: &Words) -> Result<[bool; 3], AllocError> {
+fn outcomes(alloc: Global, words: &Words) -> Result<[bool; 3], AllocError> {
     let hello = is_there(alloc, words, "hello")?;
     let world = is_there(alloc, words, "world")?;
     let other = is_there(alloc, words, "other")?;
     Ok([hello, world, other])
 }
 
-/// Whether two words that were put are there, and one that was not.
+/// Whether two words that were inserted are present, and one that was not.
 pub fn run(alloc: Global) -> Result<[bool; 3], AllocError> {
     let mut words = Words::new(alloc)?;
     put_all(alloc, &mut words, &["hello", "world"])?;
-    answers(alloc, &words)
+    outcomes(alloc, &words)
 }

@@ -4,7 +4,7 @@ ghost use Rattle.bptree_examples.specs.Depths.{IsDepth};
 use std::alloc::{AllocError, Global};
 use sweep_bptree::{Argument, BPlusTreeMap, DescendVisit, DescendVisitResult, Key};
 
-/// Counts the nodes on the way to the first leaf. Any number from 1 on is allowed.
+/// Counts the nodes on the path to the first leaf. Any number from 1 on is allowed.
 #[derive(Default, Drop)]
 pub struct GetTreeDepth {
     depth: usize,
@@ -13,7 +13,7 @@ pub struct GetTreeDepth {
 impl<K: Key, V, A: Argument<K>> DescendVisit<K, V, A> for GetTreeDepth {
     type Result = usize;
 
-    ghost answers = { λ _ _ answer. IsDepth answer };
+    ghost outcomes = { λ _ _ outcome. IsDepth outcome };
 
     fn visit_inner(
         &mut self,
@@ -29,8 +29,8 @@ impl<K: Key, V, A: Argument<K>> DescendVisit<K, V, A> for GetTreeDepth {
     }
 }
 
-/// The number of pairs of a map that is collected of the first numbers, each with its tenfold, and
-/// how many nodes stand on the way to its first leaf.
+/// Returns the number of pairs of a map of the first numbers, each with its tenfold, and the number
+/// of nodes on the path to its first leaf.
 pub fn run(alloc: Global, len: u32) -> Result<(usize, Option<usize>), AllocError> {
     let pairs = (0..len).map(|i| (u64::from(i), u64::from(i) * 10));
     let map: BPlusTreeMap<u64, u64> = BPlusTreeMap::from_iter(alloc, pairs)?;

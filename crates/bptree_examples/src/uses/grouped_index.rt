@@ -8,7 +8,7 @@ use crate::filling::filled;
 use std::alloc::{AllocError, Global};
 use sweep_bptree::{BPlusTreeMap, DescendError, ExtractGroupSize, FromRef, GroupCount, Key};
 
-/// An item of a group. The items of a group stand side by side.
+/// An item of a group. The items of a group are adjacent.
 #[derive(Clone, Copy, PartialEq, Eq, PartialOrd, Ord)]
 pub struct Item {
     /// The group.
@@ -21,7 +21,7 @@ impl Key for Item {
     ghost clone_is_equal = { Prim.search rules };
 }
 
-/// The group of an item. Of a pair as a key, `Tuple2` is the like.
+/// The group of an item. `Tuple2` is the corresponding type for a pair as a key.
 #[derive(Clone, Copy, PartialEq, Eq, PartialOrd, Ord)]
 pub struct Group(pub u32);
 
@@ -42,7 +42,7 @@ impl FromRef<Item> for Group {
 /// Items by their groups, with the sizes of groups.
 pub type Items = BPlusTreeMap<Item, (), GroupCount<Group>>;
 
-/// An index of items, each with its group.
+/// Returns an index of items, each with its group.
 pub fn new_items(alloc: Global, all: &[(u32, u32)]) -> Result<Items, AllocError> {
     let mut items = Vec::new(alloc);
     for (group, number) in all {
@@ -55,28 +55,28 @@ pub fn new_items(alloc: Global, all: &[(u32, u32)]) -> Result<Items, AllocError>
     filled(alloc, &items)
 }
 
-/// The number of items of a group, 0 if there is none.
+/// Returns the number of items of a group, which is 0 if the group has no item.
 ///
-/// It needs a map that keeps `GroupCount`, and `descend_visit` with `ExtractGroupSize`, which
-/// compares at most two groups a child and goes down one way. It is refused only where a group that
-/// is made of a key is refused memory, here never.
+/// The map keeps `GroupCount`, and `descend_visit` with `ExtractGroupSize` counts the items.
+/// O(log n): one root-to-leaf descent, with at most two comparisons of groups for each child. It fails
+/// only if making a group of a key fails, which never happens here.
 pub fn group_len(items: &Items, group: u32) -> Result<Option<usize>, DescendError>
     ensures counted { IfOk result (λ it. it ≡ Some (length (items_in group items.now))) }
-    ensures refused { IfErr result (λ error. error ≡ OutOfMemory) }
+    ensures unchanged { IfErr result (λ error. error ≡ OutOfMemory) }
 {
     items.recall();
     items.descend_visit(ExtractGroupSize::new(Group(group)))
 }
 
-/// The item of a group before which so many of the group stand; none past its last.
+/// Returns the item at an index in a group, or `None` past the group's last item.
 ///
-/// It needs a map that keeps `GroupCount`, and `get_by_argument`, which compares at most two groups
-/// a child and goes down one way. It is refused only where a group that is made of a key is refused
-/// memory, here never.
-pub fn item_at(items: &Items, group: u32, place: usize) -> Result<Option<u32>, AllocError>
-    ensures { IfOk result (λ number. number ≡ number_at group items.now place) }
+/// The map keeps `GroupCount`, and `get_by_argument` finds the item. O(log n): one root-to-leaf
+/// descent, with at most two comparisons of groups for each child. It fails only if making a group
+/// of a key fails, which never happens here.
+pub fn item_at(items: &Items, group: u32, index: usize) -> Result<Option<u32>, AllocError>
+    ensures { IfOk result (λ number. number ≡ number_at group items.now index) }
 {
-    match items.get_by_argument((Group(group), place))? {
+    match items.get_by_argument((Group(group), index))? {
         Some((item, _)) => Ok(Some(item.number)),
         None => Ok(None),
     }
@@ -89,13 +89,13 @@ fn counted_items(items: &Items, group: u32) -> Result<usize, AllocError> {
     }
 }
 
-/// How many items three groups have, and the items at three places of groups.
+/// Returns the sizes of three groups, and the items at three indices in groups.
 pub fn run(alloc: Global) -> Result<([usize; 3], [Option<u32>; 3]), AllocError> {
     let items = new_items(alloc, &[(3, 6), (1, 12), (1, 10), (3, 5), (1, 11)])?;
-    answers(&items)
+    outcomes(&items)
 }
 
-fn answers(items: &Items) -> Result<([usize; 3], [Option<u32>; 3]), AllocError> {
+fn outcomes(items: &Items) -> Result<([usize; 3], [Option<u32>; 3]), AllocError> {
     let sizes = [
         counted_items(items, 1)?,
         counted_items(items, 2)?,

@@ -1,4 +1,4 @@
-//! An index of rows by a value of theirs, kept in step with the rows.
+//! An index of rows by one of their values, which is kept consistent with the rows.
 ghost use Rattle.std.specs.Prelude.{◌≡◌, ◌≢◌, OnErr, OnOk, IfOk, IsTrue, None};
 ghost use Rattle.std.specs.Ordering.{nat_cmp};
 ghost use Rattle.std.proofs.Common.{rules};
@@ -28,7 +28,7 @@ pub type Index = BPlusTreeMap<Entry, ()>;
 /// The value of each row, by the row's number.
 pub type Rows = BPlusTreeMap<u64, u64>;
 
-/// An index of rows with their values.
+/// Returns an index of rows with their values.
 pub fn new_index(alloc: Global, values: &[(u64, u64)]) -> Result<Index, AllocError> {
     let mut entries = Vec::new(alloc);
     for (row, value) in values {
@@ -41,15 +41,17 @@ pub fn new_index(alloc: Global, values: &[(u64, u64)]) -> Result<Index, AllocErr
     filled(alloc, &entries)
 }
 
-/// Puts a new entry, and removes an old one. Where both are the same entry, it is put and stays.
+/// Inserts a new entry, and removes an old one. If both are the same entry, it is inserted and
+/// stays.
 ///
-/// It needs `insert` and `remove`, each of which goes down one way. The new entry is put first,
-/// since that alone allocates for nodes: if it fails, the index is as it was. Where the old entry
-/// can't be removed, the new one is taken back; where that can't be done either, it stays.
+/// O(log n): `insert` and `remove` are one root-to-leaf descent each. The new entry is inserted
+/// first, since only the insertion allocates nodes: if it fails, the index is unchanged. If
+/// removing the old entry fails, the new one is removed again. If this fails too, the new entry
+/// stays.
 pub fn move_entry(index: &mut Index, old: Entry, new: Entry) -> Result<(), AllocError>
     ensures moved { OnOk result (old ≢ new → index.new ≡ moved ⟦<Entry as Ord>⟧.cmp tt index.old old new) }
     ensures kept { OnOk result (old ≡ new → index.new ≡ put ⟦<Entry as Ord>⟧.cmp index.old new tt) }
-    ensures refused { OnErr result (StaysOrPuts ⟦<Entry as Ord>⟧.cmp index.old index.new new) }
+    ensures unchanged { OnErr result (StaysOrPuts ⟦<Entry as Ord>⟧.cmp index.old index.new new) }
 {
     index.recall();
     let was = match index.insert(new, ()) {
@@ -70,17 +72,17 @@ pub fn move_entry(index: &mut Index, old: Entry, new: Entry) -> Result<(), Alloc
     }
 }
 
-/// Gives a row another value, and tells whether the row is there.
+/// Gives a row another value, and returns whether the row is present.
 ///
-/// It needs `get`, `move_entry` and `insert`, which searches once and never fails for a row that is
-/// there. So the index is changed first: if that fails, the row keeps its value.
+/// O(log n): it calls `get`, `move_entry` and `insert`, which searches once and never fails for a
+/// present row. The index is therefore changed first: if this fails, the row keeps its value.
 pub fn set_value(rows: &mut Rows, index: &mut Index, row: u64, now: u64) -> Result<bool, AllocError>
     ensures there { IfOk result (λ it. it ≡ has nat_cmp rows.old row) }
     ensures row { IfOk result (λ it. IsTrue it → rows.new ≡ put nat_cmp rows.old row now) }
     ensures entry { OnOk result (FollowsRow ⟦<Entry as Ord>⟧.cmp rows.old row now index.old index.new) }
     ensures absent { OnOk result (value nat_cmp rows.old row ≡ None → index.new ≡ index.old) }
     ensures same { OnOk result (RowHas rows.old row now → index.new ≡ index.old) }
-    ensures refused { OnErr result (rows.new ≡ rows.old) }
+    ensures unchanged { OnErr result (rows.new ≡ rows.old) }
 {
     let Some(old) = rows.get(&row).copied() else {
         return Ok(false);
@@ -94,7 +96,7 @@ pub fn set_value(rows: &mut Rows, index: &mut Index, row: u64, now: u64) -> Resu
     }
 }
 
-/// The rows in the order of their values.
+/// Returns the rows in the order of their values.
 pub fn rows_by_value(alloc: Global, index: &Index) -> Result<Vec<u64>, AllocError> {
     let mut rows = Vec::new(alloc);
     for (entry, _) in index.iter() {
@@ -103,16 +105,16 @@ pub fn rows_by_value(alloc: Global, index: &Index) -> Result<Vec<u64>, AllocErro
     Ok(rows)
 }
 
-/// Three rows by their values, before one takes another value and after, and whether a fourth is
-/// there to take one.
+/// Returns three rows by their values, before one gets another value and after, and whether a
+/// fourth row is present.
 pub fn run(alloc: Global) -> Result<(Vec<u64>, Vec<u64>, bool), AllocError> {
     let values = [(3, 60), (1, 40), (2, 50)];
     let mut rows = filled(alloc, &values)?;
     let mut index = new_index(alloc, &values)?;
-    answers(alloc, &mut rows, &mut index)
+    outcomes(alloc, &mut rows, &mut index)
 }
 
-fn answers(
+fn outcomes(
     alloc: Global,
     rows: &mut Rows,
     index: &mut Index,

@@ -11,24 +11,24 @@ use sweep_bptree::{BPlusTree, BPlusTreeMap, Cursor, NodeStore};
 /// The number of a segment at each height.
 pub type Line = BPlusTreeMap<u64, u32>;
 
-/// A line that cuts segments at these heights.
+/// Returns a line that cuts segments at these heights.
 pub fn new_line(alloc: Global, segments: &[(u64, u32)]) -> Result<Line, AllocError> {
     filled(alloc, segments)
 }
 
-/// The segments next below a height and next above it. The height itself may be there or not.
+/// Returns the segments next below a height and next above it. The height itself may be present or
+/// absent.
 ///
-/// It needs the cursors of the tree inside the map. `get_cursor` searches once from the root. The
-/// cursor's `prev_with_value` and `next_with_value` take constant time where the cursor's leaf has
-/// the pair. Each takes what a clone of a key takes, here nothing; no call is
-/// refused.
+/// It uses cursors of the map's tree. `get_cursor` searches once from the root, O(log n). The
+/// cursor's `prev_with_value` and `next_with_value` take O(1) if the cursor's leaf has the pair.
+/// Each allocates what a clone of a key allocates, here nothing, so that no call fails.
 pub fn beside(line: &Line, height: u64) -> Result<(Option<u32>, Option<u32>), AllocError>
     ensures { IfOk result (λ both. both ≡ values_beside nat_cmp line.now height) }
 {
     beside_in(line.tree(), height)
 }
 
-// The same in the tree of a map, whatever stores its nodes.
+// Returns the segments beside a height in a map's tree, for any store of its nodes.
 fn beside_in<S: NodeStore<K = u64, V = u32>>(
     tree: &BPlusTree<S>,
     height: u64,
@@ -53,12 +53,12 @@ fn segment_of(found: Option<(Cursor<u64>, &u32)>) -> Option<u32>
     }
 }
 
-/// The segments beside three heights.
+/// Returns the segments beside three heights.
 pub fn run(alloc: Global) -> Result<[(Option<u32>, Option<u32>); 3], AllocError> {
     let line = new_line(alloc, &[(10, 1), (20, 2), (30, 3)])?;
-    answers(&line)
+    outcomes(&line)
 }
 
-fn answers(line: &Line) -> Result<[(Option<u32>, Option<u32>); 3], AllocError> {
+fn outcomes(line: &Line) -> Result<[(Option<u32>, Option<u32>); 3], AllocError> {
     Ok([beside(line, 25)?, beside(line, 20)?, beside(line, 35)?])
 }

@@ -4,7 +4,7 @@ ghost use Rattle.bptree_tree.specs.Whole.{IsWhole, AreNodesCloned, HasSameRoot, 
 
 use crate::tree::BPlusTree;
 use bptree_arguments::argument::CloneArgument;
-use bptree_shape::nodes::Nodes;
+use bptree_invariant::nodes::Nodes;
 use bptree_stores::node_stores::CloneStore;
 use std::alloc::AllocError;
 

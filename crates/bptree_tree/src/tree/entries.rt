@@ -6,8 +6,8 @@ ghost use Rattle.bptree_tree.specs.Entries.{IsFoundAt, entry};
 ghost use Rattle.std.specs.Map.Iter.{deref_pair};
 
 use crate::tree::BPlusTree;
-use bptree_descents::neighbours::locate;
 use bptree_keys::node_id::Position;
+use bptree_search::neighbours::locate;
 use bptree_stores::node_stores::NodeStore;
 
 impl<S: NodeStore> BPlusTree<S> {
@@ -32,7 +32,8 @@ impl<S: NodeStore> BPlusTree<S> {
         }
     }
 
-    // The pair whose key equals `k`, with its position; else the position where it would be inserted.
+    // The pair whose key equals `k`, with its position; otherwise the position at which the key
+    // would be inserted.
     #[inline(always)]
     pub(crate) fn find(&self, k: &S::K) -> Result<(Position, (&S::K, &S::V)), Position>
         ensures found { IfOk result (IsFoundAt S.K.cmp self.now.contents k.now) }

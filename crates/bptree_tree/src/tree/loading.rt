@@ -1,12 +1,12 @@
-//! A tree of many pairs at once.
+//! Trees of many pairs, built at once.
 ghost use Rattle.std.specs.Prelude.{◌≡◌, IfOk};
 ghost use Rattle.bptree_keys.specs.Contents.{load};
-ghost use Rattle.bptree_loading.specs.Loading.{IsInLoadOrder};
+ghost use Rattle.bptree_load_plan.specs.Loading.{IsInLoadOrder};
 ghost use Rattle.bptree_tree.specs.Whole.{IsWhole};
 
 use crate::tree::BPlusTree;
-use bptree_building::building::build;
-use bptree_loading::loading::keep_last_of_each_run;
+use bptree_bulk_load::building::build;
+use bptree_load_plan::loading::keep_last_of_each_run;
 use bptree_stores::node_stores::NodeStore;
 use std::alloc::AllocError;
 
@@ -14,10 +14,10 @@ impl<S: NodeStore> BPlusTree<S> {
     /// A tree of pairs whose keys do not descend, in a store that allocates from the vector's
     /// allocator. Of each run of pairs with equal keys the last stays, and the others are dropped.
     ///
-    /// Each key is compared with the next, and nothing else is. Each pair is moved once into a
-    /// leaf, and of each leaf one key is cloned. Each node is as full as it can be, but for the
-    /// last two of a layer where the last would have too little: they share what is left. A failure
-    /// drops the pairs and what was built of them.
+    /// It compares each key with the next, and no other keys. It moves each pair once into a leaf,
+    /// and clones one key of each leaf. Each node is as full as it can be, except for the last two
+    /// of a layer if the last would have too little: these share what is left. A failure drops the
+    /// pairs and what was built of them.
     ///
     /// O(n) for n pairs. It fails only if an allocation, a clone of a key or a summary fails.
     pub fn bulk_load(mut pairs: Vec<(S::K, S::V)>) -> Result<Self, AllocError>

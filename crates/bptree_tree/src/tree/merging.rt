@@ -1,6 +1,6 @@
 //! Two trees that become one.
 ghost use Rattle.std.specs.Prelude.{◌≡◌, ◌↔◌, ◌+◌, ◌<◌, ◌≤◌, ◌++◌, ◌∷◌, ◌⊎◌, ◌^◌, [], true, Err, Some, length, reverse, vec_capacity, vec_len, IfErr, IsOk, IsTrue, OnErr, OnOk};
-ghost use Rattle.bptree_ascent.specs.NodeTree.{IsWhole};
+ghost use Rattle.bptree_propagation.specs.NodeTree.{IsWhole};
 ghost use Rattle.bptree_bulk.specs.Weave.{first_rest, next_source, put_pair, second_rest, step_pair, woven, IsWeave, Weaves};
 ghost use Rattle.bptree_keys.specs.Contents.{IsAscending};
 ghost use Rattle.bptree_keys.specs.Keys.{AllInfallible};
@@ -11,6 +11,7 @@ ghost use Rattle.bptree_tree.specs.declared.AppendError.TheVariants.{Full};
 use crate::tree::{BPlusTree, IntoIter};
 use crate::{AppendError, InsertError};
 use bptree_arguments::argument::Argument;
+use bptree_batches::many::mark_many;
 use bptree_bulk::filling::plant_filling;
 use bptree_bulk::joining::{join, plan_join};
 use bptree_bulk::tail::{plan_all, plant_tail};
@@ -21,12 +22,13 @@ use std::alloc::AllocError;
 use std::cmp::Ordering;
 use std::mem;
 
-// What takes back a pair that was put.
+// How to undo a put.
 #[derive(Drop)]
 enum Undo<K, V> {
-    // The pair was inserted. This key equals its key.
+    // The put inserted a pair with a key that equals this one.
     Inserted(K),
-    // The value of a present key was replaced: the key that came with the new value, and the old one.
+    // The put replaced the value of a present key: the key that came with the new value, and the
+    // old value.
     Replaced(K, V),
 }
 
@@ -52,7 +54,7 @@ fn next_pair<S: NodeStore>(
     }
 }
 
-// Moves all pairs of two trees behind others.
+// Moves all pairs of two trees to the end of `pairs`, in the order of the steps.
 fn weave_pairs<S: NodeStore>(
     steps: &[Source],
     first: IntoIter<S>,
@@ -72,7 +74,7 @@ fn weave_pairs<S: NodeStore>(
     }
 }
 
-// Moves the pairs that are left behind others, the greatest first.
+// Moves the pairs that are left to the end of `pairs`, the greatest first.
 fn move_back<S: NodeStore>(rest: IntoIter<S>, pairs: &mut Vec<(S::K, S::V)>)
     requires room { vec_len pairs.old + length rest ≤ vec_capacity pairs.old }
     ensures moved { pairs.new.items ≡ pairs.old.items ++ reverse rest }
@@ -86,7 +88,7 @@ fn move_back<S: NodeStore>(rest: IntoIter<S>, pairs: &mut Vec<(S::K, S::V)>)
 }
 
 impl<S: NodeStore> BPlusTree<S> {
-    // Recalls what holds of every tree. It does nothing, in constant time, and never fails.
+    // States for a proof what holds of every tree. O(1). It does nothing and cannot fail.
     #[inline(always)]
     fn recall_whole(&self)
         ensures fits { length self.now.contents < 2 ^ 64 }
@@ -96,7 +98,7 @@ impl<S: NodeStore> BPlusTree<S> {
         self.nodes.recall();
     }
 
-    // Moves the pairs of two trees to the leaves that were found for them.
+    // Moves the pairs of two trees to the leaves that were allocated for them.
     fn of_weave(first: Self, second: Self, weave: Weave<S>) -> Self
         requires { IsWeave S.slots first second S.K.cmp S.Argument.is_summary weave }
         ensures contents { result.contents ≡ appended S.K.cmp first.contents second.contents }
@@ -113,7 +115,7 @@ impl<S: NodeStore> BPlusTree<S> {
         BPlusTree::of_nodes(plant_filling(filling))
     }
 
-    // Puts a pair, and notes how to take it back. If that fails, the pair is returned.
+    // Puts a pair, and records how to undo that. If it fails, it returns the pair.
     fn put_noted(
         &mut self,
         k: S::K,
@@ -151,7 +153,7 @@ impl<S: NodeStore> BPlusTree<S> {
         }
     }
 
-    // Takes back the pair that was put last.
+    // Undoes the last put, and returns its pair.
     fn undo_last(&mut self, entry: Undo<S::K, S::V>) -> (S::K, S::V)
         requires infallible { S.Argument.needs_no_memory × AllInfallible S.K.is_infallible }
         requires put { WasPut S.K.cmp entry self.old.contents }
@@ -172,7 +174,7 @@ impl<S: NodeStore> BPlusTree<S> {
         }
     }
 
-    // Takes back all pairs that were put, and moves them behind others, the last one first.
+    // Undoes all puts, the last one first, and moves their pairs to the end of `pairs`.
     fn take_back(&mut self, undo: Vec<Undo<S::K, S::V>>, pairs: &mut Vec<(S::K, S::V)>)
         requires infallible { S.Argument.needs_no_memory × AllInfallible S.K.is_infallible }
         requires put { WerePut S.K.cmp undo.items self.old.contents }
@@ -187,8 +189,28 @@ impl<S: NodeStore> BPlusTree<S> {
         self.nodes.recall();
     }
 
-    // Puts the pairs that are left one by one, and notes how to take each back. It returns the pair
-    // that could not be put, if there is one.
+    // Looks up keys side by side. The processor then has the nodes cached that a put of these keys
+    // reads. The tree does not change.
+    fn read_ahead(&self, keys: &[S::K])
+        requires { length keys.now ≤ 64 }
+    {
+        let mut marks = [false; 64];
+        mark_many(&self.nodes, keys, &mut marks[..keys.len()], true, false);
+    }
+
+    // Counts down the pairs whose keys were read ahead. Once all of them are put, it reads the keys
+    // of the next leaf ahead, and returns how many they are.
+    fn next_ahead(&self, ahead: usize, rest: &IntoIter<S>) -> usize {
+        if ahead > 1 {
+            return ahead - 1;
+        }
+        let keys = rest.next_keys();
+        self.read_ahead(keys);
+        keys.len()
+    }
+
+    // Puts the pairs that are left one by one, and records how to undo each put. If a put fails, it
+    // stops and returns the pair.
     fn put_each(
         &mut self,
         rest: &mut IntoIter<S>,
@@ -201,9 +223,10 @@ impl<S: NodeStore> BPlusTree<S> {
         ensures ok { OnOk result (self.new.contents ≡ appended S.K.cmp self.old.contents rest.old) }
         ensures err { IfErr result (StopsAt S.K.cmp undo.new self.old self.new rest.old rest.new) }
     {
+        let mut ahead = self.next_ahead(0, rest);
         'pairs: while let Some((k, v)) = rest.next() {
             match self.put_noted(k, v, undo) {
-                Ok(()) => {}
+                Ok(()) => ahead = self.next_ahead(ahead, rest),
                 Err(pair) => {
                     self.recall_whole();
                     return Err(pair);
@@ -214,7 +237,7 @@ impl<S: NodeStore> BPlusTree<S> {
         Ok(())
     }
 
-    // Puts the pairs of a small tree one by one. If one fails, all are taken back.
+    // Puts the pairs of a small tree one by one. If a put fails, it undoes all of them.
     fn append_few(&mut self, other: &mut Self) -> Result<(), AllocError>
         requires infallible { S.Argument.needs_no_memory × AllInfallible S.K.is_infallible }
         requires some { 0 < length other.old.contents }
@@ -244,12 +267,12 @@ impl<S: NodeStore> BPlusTree<S> {
         }
     }
 
-    // Whether another tree has so few pairs that they move one by one: below a sixteenth of these,
-    // where no removal can fail.
+    // Whether the pairs of another tree move one by one: the tree has less than a sixth of the
+    // pairs of this one, and no removal can fail.
     fn takes_few(&self, other: &Self) -> bool
         ensures { result ≡ true → S.Argument.needs_no_memory × AllInfallible S.K.is_infallible }
     {
-        S::K::clones_never_fail() && S::Argument::never_fails() && other.len() < self.len() / 16
+        S::K::clones_never_fail() && S::Argument::never_fails() && other.len() < self.len() / 6
     }
 
     // Whether each key of this tree is below each key of another.
@@ -264,15 +287,15 @@ impl<S: NodeStore> BPlusTree<S> {
         }
     }
 
-    /// Moves all pairs of another tree here. Of two equal keys this tree's key stays, and it takes the
-    /// other's value.
+    /// Moves all pairs of another tree here. Of two equal keys this tree's key stays, and it takes
+    /// the other's value.
     ///
     /// O(n) comparisons for n pairs of both. Before a pair moves it allocates new nodes for all of
     /// them, clones a key of each leaf and computes summaries of the keys. If one of these fails,
-    /// neither tree changes. Where each key of one tree is below each key of the other and both
-    /// have at least 16 pairs, each leaf moves as it is, in O(n / 32): it compares the keys at the
-    /// ends alone, and allocates the nodes above the leaves. If the other tree has fewer than a
-    /// sixteenth of this one's pairs and no removal can fail, as `clones_never_fail` and
+    /// neither tree changes. If each key of one tree is less than each key of the other, and both
+    /// have at least 16 pairs, each leaf moves as it is, in O(n / 32): it compares only the keys at
+    /// the ends, and allocates the nodes above the leaves. If the other tree has less than a
+    /// sixth of this one's pairs and no removal can fail, as `clones_never_fail` and
     /// `never_fails` say, it inserts these one by one instead; if one fails, it takes back those
     /// before it. If either tree is empty, it allocates nothing and cannot fail. It returns `Full`
     /// exactly if both together have more than `usize::MAX` pairs.
@@ -309,8 +332,8 @@ impl<S: NodeStore> BPlusTree<S> {
         }
     }
 
-    // The same where neither is empty, and both have no more than the greatest number of pairs. Whole
-    // leaves move where they can.
+    // Appends a tree that is not empty to this one, which is not empty either, if together they
+    // have fewer than 2^64 pairs. If the keys allow it, whole leaves move.
     fn move_all(&mut self, other: &mut Self) -> Result<(), AllocError>
         requires some { 0 < length self.old.contents }
         requires few { length self.old.contents + length other.old.contents < 2 ^ 64 }
@@ -334,8 +357,8 @@ impl<S: NodeStore> BPlusTree<S> {
         self.weave(other)
     }
 
-    // Moves all leaves of another tree behind those of this one, as they are. Each key of this tree is
-    // below each key of the other, and both have at least 16 pairs.
+    // Moves all leaves of another tree, as they are, after the leaves of this one. Each key of this
+    // tree is less than each key of the other, and both have at least 16 pairs.
     fn join(&mut self, other: &mut Self) -> Result<(), AllocError>
         requires below { IsAscending S.K.cmp (self.old.contents ++ other.old.contents) }
         requires first { 16 ≤ length self.old.contents }
@@ -358,7 +381,7 @@ impl<S: NodeStore> BPlusTree<S> {
         Ok(())
     }
 
-    // The same as `move_all`, pair by pair.
+    // Does what `move_all` does, and moves pair by pair.
     fn weave(&mut self, other: &mut Self) -> Result<(), AllocError>
         requires some { 0 < length self.old.contents }
         requires few { length self.old.contents + length other.old.contents < 2 ^ 64 }

@@ -1,5 +1,5 @@
 //! The pairs of an owned tree, one by one from both ends.
-ghost use Rattle.std.specs.Prelude.{◌≡◌, ◌++◌, Some, length, IfSome};
+ghost use Rattle.std.specs.Prelude.{◌≡◌, ◌≤◌, ◌++◌, Some, length, IfSome};
 ghost use Rattle.std.specs.Iterator.{at_most, item_count, UpTo};
 ghost use Rattle.std.specs.Iterator.SizeHint.{IsWithinCount};
 ghost use Rattle.std.specs.Map.Iter.{TakesFirst, TakesLast, GivesInOrder, GivesInReverse};
@@ -8,19 +8,19 @@ ghost use Rattle.bptree_tree.specs.Chain.{TakesEnd, TakesEndOfAll};
 
 use crate::chain::Chain;
 use crate::tree::BPlusTree;
+use bptree_invariant::nodes::Nodes;
 use bptree_keys::end::End;
 use bptree_nodes::leaf_node::LeafNode;
 use bptree_nodes::leaf_pairs::LeafPairs;
-use bptree_shape::nodes::Nodes;
 use bptree_stores::node_stores::NodeStore;
 use std::iter::{ExactSizeIterator, FusedIterator};
 use std::marker::Model;
 
-/// The pairs of an owned tree that are left, in the order of their keys. No step allocates, and
-/// none is refused; what is left is dropped with it.
+/// An iterator that owns the pairs of a tree, in the order of their keys. It drops the pairs that
+/// are left when it is dropped.
 ///
-/// A step takes constant time: within a leaf it moves one pair alone. The first step into a leaf
-/// takes it out of its store.
+/// O(1) a step. A step moves one pair, and the first step into a leaf takes that leaf out of its
+/// store. No step allocates or fails.
 #[derive(Drop)]
 pub struct IntoIter<S: NodeStore> {
     leaves: Chain<S>,
@@ -111,8 +111,8 @@ fn pair_at_end<K: Drop, V: Drop>(pairs: &mut LeafPairs<K, V>, end: End) -> Optio
     }
 }
 
-// The same of what is left in all leaves: the open one near that end, those between, and the open
-// one far from it.
+// Takes the pair at an end of all leaves that are left: the open leaf near that end, the leaves
+// between, and the open leaf far from it.
 #[inline(always)]
 fn pair_left<S: NodeStore>(
     near: &mut LeafPairs<S::K, S::V>,
@@ -136,6 +136,14 @@ fn pair_left<S: NodeStore>(
 }
 
 impl<S: NodeStore> IntoIter<S> {
+    // The keys of the next leaf that a step from the front opens. The slice is empty if no further
+    // leaf is left.
+    pub(crate) fn next_keys(&self) -> &[S::K]
+        ensures { length result.now ≤ 64 }
+    {
+        self.leaves.next_keys()
+    }
+
     // The first pair that is left, or the last one.
     #[inline(always)]
     fn pair_at(&mut self, end: End) -> Option<(S::K, S::V)>

@@ -1,12 +1,12 @@
 //! Reads of a tree by the summaries of its keys.
 ghost use Rattle.std.specs.Prelude.{◌≡◌, IfOk, IfErr, IsOk, is_ok, length};
 ghost use Rattle.std.specs.Map.{keys_of};
-ghost use Rattle.bptree_arguments.specs.Visits.{answered, IsAllowedError};
+ghost use Rattle.bptree_arguments.specs.Visits.{returned, IsAllowedError};
 ghost use Rattle.bptree_keys.specs.Contents.{has};
 ghost use Rattle.bptree_ranges.specs.Summaries.{IsPartSummary};
 ghost use Rattle.bptree_tree.specs.Changes.{EitherWay};
-ghost use Rattle.bptree_tree.specs.Entries.{pairs_between, SumsUpBetween};
-ghost use Rattle.bptree_tree.specs.Selected.{LendsSelected, SelectsNone, ShowsSelected};
+ghost use Rattle.bptree_tree.specs.Entries.{pairs_between, EntriesSumUpBetween};
+ghost use Rattle.bptree_tree.specs.Selected.{BorrowsSelected, SelectsNone, ShowsSelected};
 
 use crate::SelectError;
 use crate::tree::BPlusTree;
@@ -14,10 +14,10 @@ use crate::tree::lending::selected_mut;
 use bptree_arguments::argument::{RankArgument, SearchArgument};
 use bptree_arguments::count::Count;
 use bptree_arguments::visit::{DescendError, DescendVisit};
-use bptree_descents::{by_argument, visiting};
 use bptree_keys::key::Key;
 use bptree_ranges::counting::len_between;
 use bptree_ranges::summaries::summary_between;
+use bptree_search::{by_argument, visiting};
 use bptree_stores::node_store_vec::NodeStoreVec;
 use bptree_stores::node_stores::NodeStore;
 use std::alloc::AllocError;
@@ -25,7 +25,7 @@ use std::alloc::AllocError;
 impl<S: NodeStore> BPlusTree<S> {
     /// The pair at an index that is allowed for the query, or `None`.
     ///
-    /// O(log n): one descent, which asks the argument once a level. It allocates only what the
+    /// O(log n): one descent, which calls the argument once a level. It allocates only what the
     /// argument allocates, and fails only if the argument does.
     pub fn get_by_argument(
         &self,
@@ -34,9 +34,9 @@ impl<S: NodeStore> BPlusTree<S> {
     where
         S::Argument: SearchArgument<S::K>,
         ensures selected { IfOk result (ShowsSelected S.Argument.selects query self.now.contents) }
-        ensures sure { S.Argument.needs_no_memory → IsOk result }
+        ensures infallible { S.Argument.needs_no_memory → IsOk result }
     {
-        match self.place_by_argument(query)? {
+        match self.index_by_argument(query)? {
             None => Ok(None),
             Some((_, pair)) => Ok(Some(pair)),
         }
@@ -44,7 +44,7 @@ impl<S: NodeStore> BPlusTree<S> {
 
     /// The rank of a key: `Ok` if the key is present, and else `Err`, within a `Result`.
     ///
-    /// O(log n): one descent, which asks the argument once a level. It allocates only what the
+    /// O(log n): one descent, which calls the argument once a level. It allocates only what the
     /// argument allocates, and fails only if the argument does.
     pub fn rank_by_argument(
         &self,
@@ -60,7 +60,7 @@ impl<S: NodeStore> BPlusTree<S> {
         S::Argument: RankArgument<S::K>,
         ensures ranked { IfOk result (EitherWay (S.Argument.ranks k.now (keys_of self.now.contents))) }
         ensures present { IfOk result (λ a. is_ok a ≡ has S.K.cmp self.now.contents k.now) }
-        ensures sure { S.Argument.needs_no_memory → IsOk result }
+        ensures infallible { S.Argument.needs_no_memory → IsOk result }
     {
         by_argument::rank_by_argument(&self.nodes, k)
     }
@@ -76,14 +76,15 @@ impl<S: NodeStore> BPlusTree<S> {
         lo: Option<&'b S::K>,
         hi: Option<&'b S::K>,
     ) -> Result<S::Argument, AllocError>
-        ensures { IfOk result (SumsUpBetween S.Argument.is_summary S.K.cmp self.now.contents lo.entry hi.entry) }
+        ensures { IfOk result (EntriesSumUpBetween S.Argument.is_summary S.K.cmp self.now.contents lo.entry hi.entry) }
     {
         summary_between(&self.nodes, lo, hi)
     }
 
     /// A summary of the keys from an index that is allowed for one query on, up to an index that is
-    /// allowed for another. If no index is allowed for the second query, it is of all keys from the
-    /// first one on. If none is allowed for the first, it is of no keys.
+    /// allowed for another. If no index is allowed for the second query, it is a summary of all
+    /// keys from the first index on. If no index is allowed for the first query, it is a summary of
+    /// no keys.
     ///
     /// O(log n). It fails only if the argument does, or if the allocation of room for two summaries
     /// fails.
@@ -114,8 +115,8 @@ impl<S: NodeStore> BPlusTree<S> {
         &self,
         visitor: W,
     ) -> Result<Option<W::Result>, DescendError>
-        ensures answer { IfOk result (λ a. W.answers visitor self.now.contents (answered a)) }
-        ensures error { IfErr result (IsAllowedError W.answers visitor self.now.contents) }
+        ensures outcome { IfOk result (λ a. W.outcomes visitor self.now.contents (returned a)) }
+        ensures error { IfErr result (IsAllowedError W.outcomes visitor self.now.contents) }
     {
         visiting::descend_visit(&self.nodes, visitor)
     }
@@ -124,7 +125,7 @@ impl<S: NodeStore> BPlusTree<S> {
 impl<S: NodeStore> BPlusTree<S> {
     ghost use Rattle.std.specs.Prelude.{IsOkUnless};
     ghost use Rattle.std.specs.Borrow.{sem};
-    ghost use Rattle.bptree_tree.specs.Rows.{lends_selected};
+    ghost use Rattle.bptree_tree.specs.Rows.{borrows_selected};
 
     /// The value at an index that is allowed for the query, for writing.
     ///
@@ -136,10 +137,10 @@ impl<S: NodeStore> BPlusTree<S> {
     ) -> Result<&mut S::V, SelectError>
     where
         S::Argument: SearchArgument<S::K>,
-        ensures* writes_back { sem 𝓛 (lends_selected S.row S.K.row S.V.row S.Argument.row S.NodeStore S.K.Key S.Argument.Argument self.entry S.Argument.selects query result) }
-        ensures value { IfOk result (LendsSelected S.Argument.selects query self.old.contents) }
+        ensures* writes_back { sem 𝓛 (borrows_selected S.row S.K.row S.V.row S.Argument.row S.NodeStore S.K.Key S.Argument.Argument self.entry S.Argument.selects query result) }
+        ensures value { IfOk result (BorrowsSelected S.Argument.selects query self.old.contents) }
         ensures absent { IfErr result (SelectsNone S.Argument.selects query self.old.contents) }
-        ensures sure { S.Argument.needs_no_memory → IsOkUnless result SelectError.NotFound }
+        ensures infallible { S.Argument.needs_no_memory → IsOkUnless result SelectError.NotFound }
     {
         selected_mut(&mut self.nodes, query)
     }

@@ -1,7 +1,7 @@
 //! Removal of the pairs between two keys.
 ghost use Rattle.std.specs.Prelude.{◌≡◌, ◌<◌, length, IfOk, OnErr, OnOk};
-ghost use Rattle.bptree_ascent.specs.Failing.{NeverFails, OkIs};
-ghost use Rattle.bptree_bulk.specs.Positions.{place_of, IsAtPair};
+ghost use Rattle.bptree_propagation.specs.Failing.{NeverFails, OkIs};
+ghost use Rattle.bptree_bulk.specs.Positions.{index_of_position, IsAtPair};
 ghost use Rattle.bptree_keys.specs.Keys.{AllInfallible};
 ghost use Rattle.bptree_keys.specs.Ranges.{between};
 ghost use Rattle.bptree_tree.specs.Entries.{pairs_between};
@@ -14,19 +14,19 @@ use bptree_arguments::argument::Argument;
 use bptree_bulk::removing::{Removal, cut_out, plan_removal};
 use bptree_bulk::splitting::{is_end, is_start};
 use bptree_bulk::tail::removes_few;
+use bptree_invariant::nodes::Nodes;
 use bptree_keys::entry_ref::VisitStack;
 use bptree_keys::key::Key;
 use bptree_keys::node_id::Position;
-use bptree_ranges::ranges::{part_between, places_between};
+use bptree_ranges::ranges::{indexes_between, part_between};
 use bptree_rebalancing::statistics::Statistic;
 use bptree_removal::removal;
-use bptree_shape::nodes::Nodes;
 use bptree_stores::node_stores::NodeStore;
 use std::alloc::AllocError;
 use std::mem;
 
 // Removes the first pair between two ends from the nodes of a tree. It returns whether there was
-// one.
+// such a pair.
 fn drop_first_of<'b, S: NodeStore>(
     tree: &mut Nodes<S>,
     lo: Option<&'b S::K>,
@@ -51,8 +51,8 @@ fn drop_first_of<'b, S: NodeStore>(
     Ok(true)
 }
 
-// Finds all that is needed to drop the pairs from one position up to another, or nothing if these
-// are all.
+// Prepares all that is needed to drop the pairs from one position up to another. It returns `None`
+// if these are all pairs.
 fn plan_drop<S: NodeStore>(
     tree: &Nodes<S>,
     lo: Position,
@@ -60,7 +60,7 @@ fn plan_drop<S: NodeStore>(
 ) -> Result<Option<Removal<S>>, AllocError>
     requires lo { IsAtPair S.slots tree.now lo }
     requires hi { IsAtPair S.slots tree.now hi }
-    requires order { place_of S.slots tree.now lo < place_of S.slots tree.now hi }
+    requires order { index_of_position S.slots tree.now lo < index_of_position S.slots tree.now hi }
     ensures { IfOk result (PlansDrop S.K.cmp S.Argument.is_summary S.slots tree.now lo hi) }
 {
     tree.recall();
@@ -72,9 +72,9 @@ fn plan_drop<S: NodeStore>(
 }
 
 impl<S: NodeStore> BPlusTree<S> {
-    // Removes the pairs between two keys one by one, and returns how many there were.
+    // Removes the pairs between two keys one by one, and returns their number.
     fn remove_each<'b>(&mut self, lo: Option<&'b S::K>, hi: Option<&'b S::K>) -> usize
-        requires sure { S.Argument.needs_no_memory × AllInfallible S.K.is_infallible }
+        requires infallible { S.Argument.needs_no_memory × AllInfallible S.K.is_infallible }
         ensures whole { IsWhole S.K.cmp S.Argument.is_summary S.slots self.new }
         ensures rest { KeepsOutside S.K.cmp lo.entry hi.entry self.old.contents self.new.contents }
         ensures count { result ≡ length (pairs_between S.K.cmp self.old.contents lo.entry hi.entry) }
@@ -87,11 +87,11 @@ impl<S: NodeStore> BPlusTree<S> {
         gone
     }
 
-    // Drops the pairs from one position up to another, of which there is one.
+    // Drops the pairs from one position up to another. There is at least one.
     fn drop_between(&mut self, lo: Position, hi: Position) -> Result<(), AllocError>
         requires lo { IsAtPair S.slots self.old lo }
         requires hi { IsAtPair S.slots self.old hi }
-        requires order { place_of S.slots self.old lo < place_of S.slots self.old hi }
+        requires order { index_of_position S.slots self.old lo < index_of_position S.slots self.old hi }
         ensures whole { IsWhole S.K.cmp S.Argument.is_summary S.slots self.new }
         ensures ok { OnOk result (DropsBetween S.slots lo hi self.old self.new) }
         ensures unchanged { OnErr result (self.new ≡ self.old) }
@@ -119,14 +119,14 @@ impl<S: NodeStore> BPlusTree<S> {
     }
 
     /// Removes the pairs whose key is not below `lo` and is below `hi`, if they are given, and
-    /// returns how many there were. If it fails, nothing changes.
+    /// returns their number. If it fails, nothing changes.
     ///
-    /// It searches for both ends in O(log n) comparisons. Then each leaf on either side stays as it
-    /// is, but for a few at the gap: O(n / 32) for n pairs, and O(1) for each pair that is dropped.
-    /// Before that it allocates the nodes above the leaves, clones the first key of each leaf and
-    /// computes a summary of its keys, and it fails if one of these does. If no removal can fail,
-    /// as `clones_never_fail` and `never_fails` say, it does not fail: it removes the pairs one by
-    /// one where at most n / 32 are removed or if an allocation fails. If there is no such pair, it
+    /// O(log n) comparisons to find both ends, O(n / 32) for n pairs, and O(1) for each pair that
+    /// is dropped: each leaf on either side stays as it is, except for a few at the gap. Before
+    /// that it allocates the nodes above the leaves, clones the first key of each leaf and computes
+    /// a summary of its keys, and it fails if one of these does. If no removal can fail, as
+    /// `clones_never_fail` and `never_fails` say, it does not fail: it removes the pairs one by one
+    /// if at most n / 32 are removed or if an allocation fails. If there is no such pair, it
     /// allocates nothing and cannot fail. If all pairs are removed, it allocates one leaf.
     pub fn remove_range<'b>(
         &mut self,
@@ -143,7 +143,7 @@ impl<S: NodeStore> BPlusTree<S> {
         let Some(_) = pairs_from(&self.nodes, part_between(&self.nodes, lo, hi)).next() else {
             return Ok(0);
         };
-        let (from, to) = places_between(&self.nodes, lo, hi);
+        let (from, to) = indexes_between(&self.nodes, lo, hi);
         if removes_few(&self.nodes, from, hi) {
             return Ok(self.remove_each(lo, hi));
         }

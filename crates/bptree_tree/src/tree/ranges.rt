@@ -4,18 +4,18 @@ ghost use Rattle.std.specs.Map.Iter.{ShowsInOrder, deref_pair};
 ghost use Rattle.bptree_arguments.specs.Groups.{of_group};
 ghost use Rattle.bptree_keys.specs.Contents.{IsAscending};
 ghost use Rattle.bptree_keys.specs.Ranges.{part};
-ghost use Rattle.bptree_descents.specs.ByArgument.{IsPartSelected};
+ghost use Rattle.bptree_search.specs.ByArgument.{IsPartSelected};
 ghost use Rattle.bptree_tree.specs.Entries.{IsPartOf, pairs_between};
 
 use crate::tree::BPlusTree;
 use bptree_arguments::argument::SearchArgument;
 use bptree_arguments::group::FromRef;
-use bptree_iteration::iterator::Iter;
-use bptree_iteration::part::Part;
+use bptree_invariant::nodes::Nodes;
+use bptree_iter::iterator::Iter;
+use bptree_iter::part::Part;
 use bptree_keys::key::Key;
 use bptree_ranges::groups::{part_of_group, part_within_group};
 use bptree_ranges::ranges::{part_between, part_by_argument};
-use bptree_shape::nodes::Nodes;
 use bptree_stores::node_stores::NodeStore;
 use std::alloc::AllocError;
 
@@ -59,7 +59,7 @@ impl<S: NodeStore> BPlusTree<S> {
         S::Argument: SearchArgument<S::K>,
         ensures rest { IfOk result (λ it. IsPartSelected S.Argument.selects query self.now.contents n it) }
         ensures ascending { IfOk result (λ it. IsAscending S.K.cmp it) }
-        ensures sure { S.Argument.needs_no_memory → IsOk result }
+        ensures infallible { S.Argument.needs_no_memory → IsOk result }
         ensures runs { ShowsInOrder (deref_pair {K = S.K} {X = S.V}) }
     {
         let part = part_by_argument(&self.nodes, query, n)?;
@@ -81,7 +81,7 @@ impl<S: NodeStore> BPlusTree<S> {
         Ok(pairs_from(&self.nodes, part))
     }
 
-    /// At most `n` pairs of a group, from its pair number `i` on, which counts from 0.
+    /// At most `n` pairs of a group, from its pair with the index `i` on, counted from 0.
     ///
     /// O(log n) to begin if summaries determine how many keys they are of, as those of `Count` and
     /// `GroupCount` do, and else O(log n + i / 16). O(1) a step, but for the first one from the

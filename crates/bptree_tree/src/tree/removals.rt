@@ -2,10 +2,10 @@
 ghost use Rattle.std.specs.Prelude.{◌≡◌, [], false, None, Ok, IfOk, OnErr};
 ghost use Rattle.bptree_keys.specs.Contents.{has};
 ghost use Rattle.bptree_keys.specs.Ends.{is_back};
-ghost use Rattle.bptree_ascent.specs.Failing.{NeverFails};
-ghost use Rattle.bptree_descents.specs.ByArgument.{IsTaken};
+ghost use Rattle.bptree_propagation.specs.Failing.{NeverFails};
+ghost use Rattle.bptree_search.specs.ByArgument.{IsTaken};
 ghost use Rattle.bptree_tree.specs.Whole.{IsWhole, IsUntouched, HasSameNodes};
-ghost use Rattle.bptree_tree.specs.Changes.{PopsEnd, PopsFirst, PopsLast, RemovesEntry, RemovesTold};
+ghost use Rattle.bptree_tree.specs.Changes.{PopsEnd, PopsFirst, PopsLast, RemovesEntry, RemovesReported};
 
 use crate::tree::BPlusTree;
 use bptree_arguments::argument::SearchArgument;
@@ -27,7 +27,7 @@ impl<S: NodeStore> BPlusTree<S> {
         S::Argument: SearchArgument<S::K>,
         ensures whole { IsWhole S.K.cmp S.Argument.is_summary S.slots self.new }
         ensures ok { IfOk result (IsTaken S.Argument.selects query self.old.contents self.new.contents) }
-        ensures by_key { IfOk result (RemovesTold S.K.cmp self.old.contents self.new.contents) }
+        ensures by_key { IfOk result (RemovesReported S.K.cmp self.old.contents self.new.contents) }
         ensures untouched { result ≡ Ok None → HasSameNodes S.slots self.new self.old }
         ensures err { OnErr result (self.new.contents ≡ self.old.contents) }
         ensures unchanged { OnErr result (IsUntouched S.slots self.new self.old) }

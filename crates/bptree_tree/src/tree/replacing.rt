@@ -1,8 +1,8 @@
-//! A key in the place of one that equals it.
+//! Replacement of a key by one that equals it.
 ghost use Rattle.std.specs.Prelude.{IfErr, IfOk, IsOk, IsTrue, OnErr};
 ghost use Rattle.bptree_keys.specs.Contents.{has};
 ghost use Rattle.bptree_tree.specs.Changes.{IsReplaceFailure, ReplacesKeyOf};
-ghost use Rattle.bptree_tree.specs.Refusal.{HandsKeyBack};
+ghost use Rattle.bptree_tree.specs.Returning.{ReturnsKey};
 ghost use Rattle.bptree_tree.specs.Whole.{IsWhole, IsUntouched};
 
 use crate::ReplaceError;
@@ -13,12 +13,13 @@ use bptree_stores::node_stores::NodeStore;
 impl<S: NodeStore> BPlusTree<S> {
     /// Replaces the key that equals `k` by `k`, and returns it. Its value stays.
     ///
-    /// O(log n): one descent. The summaries above the key are computed anew. Only they can allocate,
-    /// so without summaries a key that is present never fails. If no key equals `k`, or if an
-    /// allocation fails, `k` is returned, and the tree is unchanged, node by node.
+    /// O(log n): one descent. The summaries above the key are computed anew. Only they can
+    /// allocate, so without summaries the call never fails for a key that is present. If no key
+    /// equals `k`, or if an allocation fails, the error returns `k`, and the tree is unchanged,
+    /// node by node.
     pub fn replace_key(&mut self, k: S::K) -> Result<S::K, ReplaceError<S::K>>
         ensures ok { IfOk result (ReplacesKeyOf S.K.cmp k self.old.contents self.new.contents) }
-        ensures err { IfErr result (HandsKeyBack k self.old.contents self.new.contents) }
+        ensures err { IfErr result (ReturnsKey k self.old.contents self.new.contents) }
         ensures kind { IfErr result (IsReplaceFailure S.K.cmp self.old.contents) }
         ensures whole { IsWhole S.K.cmp S.Argument.is_summary S.slots self.new }
         ensures unchanged { OnErr result (IsUntouched S.slots self.new self.old) }

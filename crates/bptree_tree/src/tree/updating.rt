@@ -1,14 +1,14 @@
-//! Values that a closure changes in place.
+//! Changes of values in place by a closure.
 ghost use Rattle.std.specs.Prelude.{◌≤◌, length};
 ghost use Rattle.bptree_nodes.specs.Slot.{IsPresent};
 ghost use Rattle.bptree_nodes.specs.Updating.{ChangesInTurn};
-ghost use Rattle.bptree_shape.specs.Shape.{leaf_pairs, IsWellShaped};
-ghost use Rattle.bptree_tree.specs.Updating.{IsNotBehind, IsSettledAt, UpdatesBetween, UpdatesPlaces, UpdatesSlots};
+ghost use Rattle.bptree_invariant.specs.Shape.{leaf_pairs, IsWellShaped};
+ghost use Rattle.bptree_tree.specs.Updating.{IsNotBehind, IsSettledAt, UpdatesBetween, UpdatesIndexes, UpdatesSlots};
 
 use crate::tree::BPlusTree;
+use bptree_invariant::nodes::Nodes;
 use bptree_keys::node_id::{LeafNodeId, NodeId, Position};
-use bptree_ranges::ranges::places_between;
-use bptree_shape::nodes::Nodes;
+use bptree_ranges::ranges::indexes_between;
 use bptree_stores::node_stores::NodeStore;
 
 // Changes the values of the slots of a leaf from one on and below another by a closure.
@@ -28,7 +28,7 @@ fn update_leaf<S: NodeStore, F: FnMut(&S::K, &mut S::V)>(
     store.get_mut_leaf(id).update_between(from, to, f)
 }
 
-// Changes the values between two places by a closure, in the order of their keys, leaf by leaf
+// Changes the values between two positions by a closure, in the order of their keys, leaf by leaf
 // along the links.
 fn update_leaves<S: NodeStore, F: FnMut(&S::K, &mut S::V)>(
     store: &mut S,
@@ -44,7 +44,7 @@ fn update_leaves<S: NodeStore, F: FnMut(&S::K, &mut S::V)>(
     requires back { IsSettledAt (S.slots store.old) height root back }
     requires rises { IsNotBehind (S.slots store.old) height root front back }
     ensures shape { IsWellShaped S.K.cmp S.Argument.is_summary (S.slots store.new) height root }
-    ensures changed { UpdatesPlaces F.FnMut f (S.slots store.old) (S.slots store.new) height root front back }
+    ensures changed { UpdatesIndexes F.FnMut f (S.slots store.old) (S.slots store.new) height root front back }
 {
     let mut at = front.leaf;
     let mut from = front.slot;
@@ -59,7 +59,7 @@ fn update_leaves<S: NodeStore, F: FnMut(&S::K, &mut S::V)>(
     update_leaf(store, at, from, back.slot, f);
 }
 
-// Changes the values between two ends, which are borrowed no longer than the tree.
+// Changes the values between two ends, which have the lifetime of the tree's borrow.
 fn update_within<'a, S: NodeStore, F: FnMut(&S::K, &mut S::V)>(
     tree: &'a mut Nodes<S>,
     lo: Option<&'a S::K>,
@@ -69,7 +69,7 @@ fn update_within<'a, S: NodeStore, F: FnMut(&S::K, &mut S::V)>(
     requires { F.IsAlwaysCallable f }
     ensures { UpdatesBetween F.FnMut f S.K.cmp lo.entry hi.entry tree.old.contents tree.new.contents }
 {
-    let (front, back) = places_between(tree, lo, hi);
+    let (front, back) = indexes_between(tree, lo, hi);
     update_leaves(&mut tree.store, tree.root, tree.height, front, back, f);
 }
 

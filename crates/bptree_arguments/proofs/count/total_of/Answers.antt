@@ -3,6 +3,6 @@ use Rattle.std.proofs.lemmas.Grind.{common_steps}
 use Rattle.std.proofs.lemmas.Nat.{le_or_l, le_or_r}
 use Rattle.bptree_arguments.proofs.count.total_of.Goals as goal
 
--- what the bits are below, so far and with one more, each number in them is below too
+-- a bound on the bits, so far and with one more number, is a bound on each number in them
 pub loop-argument-preserved : goal.loop-argument-preserved
 loop-argument-preserved c = λ small. grind (arith, common_steps, le_or_l, le_or_r)

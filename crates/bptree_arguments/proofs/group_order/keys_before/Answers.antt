@@ -1,7 +1,7 @@
 use Rattle.std.proofs.Common.{◌≡◌, ◌+◌, ◌-◌, ◌/◌, map, drop, false, subst, arith}
 use Rattle.std.proofs.lemmas.Result.{IfOk-from_err}
 use Rattle.std.specs.List.{AllByRecursion}
-use Rattle.bptree_arguments.specs.GroupAnswers.{is_before}
+use Rattle.bptree_arguments.specs.GroupResults.{is_before}
 use Rattle.bptree_keys.specs.Ends.{is_back}
 use Rattle.bptree_arguments.proofs.GroupOrderLemmas.{up_to_key, from_key}
 use Rattle.bptree_arguments.proofs.group_order.keys_before.Goals as goal

@@ -1,7 +1,7 @@
 use Rattle.std.proofs.Common.{◌≡◌, ◌-◌, ◌≤◌, length, map, take, drop, true, false}
 use Rattle.std.specs.List.{AllByRecursion}
 use Rattle.std.specs.List.Sorted.{IsStrictlySortedBy}
-use Rattle.bptree_arguments.specs.GroupAnswers.{is_before}
+use Rattle.bptree_arguments.specs.GroupResults.{is_before}
 use Rattle.bptree_keys.specs.Ends.{is_back}
 use Rattle.bptree_arguments.proofs.group_order.keys_before.Given as goal
 

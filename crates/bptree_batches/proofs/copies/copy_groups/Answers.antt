@@ -1,7 +1,7 @@
 use Rattle.std.proofs.Common.{◌≡◌, ◌+◌, ◌-◌, ◌≤◌, length, arith, unwrap_or, if◌then◌else◌}
 use Rattle.bptree_keys.specs.Contents.{has, value}
-use Rattle.bptree_shape.specs.Shape.{pairs_at}
-use Rattle.bptree_batches.proofs.EachLemmas.{group_more, mapped_group_more, all_answered}
+use Rattle.bptree_invariant.specs.Shape.{pairs_at}
+use Rattle.bptree_batches.proofs.EachLemmas.{group_more, mapped_group_more, all_returned}
 use Rattle.bptree_batches.proofs.copies.copy_groups.Goals as goal
 
 pub groups-preserved : goal.groups-preserved
@@ -27,4 +27,4 @@ pub returns-clause-marks : goal.returns-clause-marks
 returns-clause-marks g c =
     let cmp = g.S.K.Ord.cmp in
     let pairs = pairs_at (g.S.NodeStore.slots c.args.store.now) c.args.height c.args.root in
-    all_answered (λ k. if has cmp pairs k then c.args.hit else c.args.miss) c.args.keys.now c.args.marks.now c.groups.marks c.groups.at c.groups.invariant.marks (omega arith) c.requires.marks
+    all_returned (λ k. if has cmp pairs k then c.args.hit else c.args.miss) c.args.keys.now c.args.marks.now c.groups.marks c.groups.at c.groups.invariant.marks (omega arith) c.requires.marks

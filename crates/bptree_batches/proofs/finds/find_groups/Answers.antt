@@ -2,8 +2,8 @@ use Rattle.std.proofs.Common.{◌≡◌, ◌+◌, ◌-◌, ◌≤◌, length, ma
 use Rattle.std.specs.Option.{option_copied}
 use Rattle.std.proofs.lemmas.List.{length-map}
 use Rattle.bptree_keys.specs.Contents.{value}
-use Rattle.bptree_shape.specs.Shape.{pairs_at}
-use Rattle.bptree_batches.proofs.EachLemmas.{mapped_group_more, all_answered}
+use Rattle.bptree_invariant.specs.Shape.{pairs_at}
+use Rattle.bptree_batches.proofs.EachLemmas.{mapped_group_more, all_returned}
 use Rattle.bptree_batches.proofs.FindLemmas.{map_put_mid}
 use Rattle.bptree_batches.proofs.finds.find_groups.Goals as goal
 
@@ -29,4 +29,4 @@ groups-preserved g c =
 pub returns : goal.returns
 returns g c =
     let pairs = pairs_at (g.S.NodeStore.slots c.args.store.now) c.args.height c.args.root in
-    all_answered (value g.S.K.Ord.cmp pairs) c.args.keys.now (map option_copied c.args.found.now) (map option_copied c.groups.found) c.groups.at c.groups.invariant.found (omega arith) (length-map c.args.found.now option_copied ∙ c.requires.found)
+    all_returned (value g.S.K.Ord.cmp pairs) c.args.keys.now (map option_copied c.args.found.now) (map option_copied c.groups.found) c.groups.at c.groups.invariant.found (omega arith) (length-map c.args.found.now option_copied ∙ c.requires.found)

@@ -1,7 +1,7 @@
 use Rattle.std.proofs.Common.{◌≡◌, ◌+◌, ◌-◌, ◌≤◌, length, arith, if◌then◌else◌}
 use Rattle.bptree_keys.specs.Contents.{has}
-use Rattle.bptree_shape.specs.Shape.{pairs_at}
-use Rattle.bptree_batches.proofs.EachLemmas.{mapped_group_more, all_answered}
+use Rattle.bptree_invariant.specs.Shape.{pairs_at}
+use Rattle.bptree_batches.proofs.EachLemmas.{mapped_group_more, all_returned}
 use Rattle.bptree_batches.proofs.finds.mark_groups.Goals as goal
 
 pub groups-preserved : goal.groups-preserved
@@ -23,4 +23,4 @@ groups-preserved g c =
 pub returns : goal.returns
 returns g c =
     let pairs = pairs_at (g.S.NodeStore.slots c.args.store.now) c.args.height c.args.root in
-    all_answered (λ k. if has g.S.K.Ord.cmp pairs k then c.args.hit else c.args.miss) c.args.keys.now c.args.marks.now c.groups.marks c.groups.at c.groups.invariant.marks (omega arith) c.requires.marks
+    all_returned (λ k. if has g.S.K.Ord.cmp pairs k then c.args.hit else c.args.miss) c.args.keys.now c.args.marks.now c.groups.marks c.groups.at c.groups.invariant.marks (omega arith) c.requires.marks

@@ -7,4 +7,4 @@ returns g c =
     let slots = g.S.NodeStore.slots c.args.store.now in
     let at = c.locate_child-child.ensures in
     way_to_child total slots c.args.height c.args.id c.inner_id_unchecked-inner.result c.get_inner.result.now c.args.key.now c.locate_child-child.result.0 c.locate_child-child.result.1
-    c.inner_id_unchecked-inner.ensures c.requires.stands c.get_inner.ensures at.leads at.in_range at.child
+    c.inner_id_unchecked-inner.ensures c.requires.stored c.get_inner.ensures at.leads at.in_range at.child

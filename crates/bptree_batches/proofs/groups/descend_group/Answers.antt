@@ -20,7 +20,7 @@ starts-preserved g c =
       within = omega arith;
       ways =
           split_set (IsOnWay g.S.K.Ord.cmp slots c.args.height c.args.root c.args.height) (λ k node. Unit {0}) c.starts.filled c.args.keys.now c.starts.nodes c.args.root c.starts-test.true c.starts.invariant.ways
-          (λ k. record { stands = c.requires.stands; leads = λ leaf for'. for' });
+          (λ k. record { stored = c.requires.stored; leads = λ leaf for'. for' });
     }
 
 pub levels-init : goal.levels-init
@@ -38,11 +38,11 @@ keys-init g c =
           c.levels.invariant;
     }
 
-pub child_for-requires-clause-stands : goal.child_for-requires-clause-stands
-child_for-requires-clause-stands g c =
+pub child_for-requires-clause-stored : goal.child_for-requires-clause-stored
+child_for-requires-clause-stored g c =
     let slots = g.S.NodeStore.slots c.args.store.now in
     (split_at (IsOnWay g.S.K.Ord.cmp slots c.args.height c.args.root (c.levels.level - 1)) (IsOnWay g.S.K.Ord.cmp slots c.args.height c.args.root c.levels.level) c.keys.at c.args.keys.now c.keys.nodes
-    c.index-keys-at.result (Inner record { 0 = 0 }) c.keys-test.true c.keys.invariant.ways).stands
+    c.index-keys-at.result (Inner record { 0 = 0 }) c.keys-test.true c.keys.invariant.ways).stored
 
 pub keys-preserved : goal.keys-preserved
 keys-preserved g c =

@@ -1,6 +1,6 @@
 use Rattle.std.proofs.Common.{◌≡◌, ◌+◌, ◌-◌, ◌≤◌, length, slice_get, arith, unwrap_or, if◌then◌else◌}
 use Rattle.std.specs.Option.{is_some, option_map}
-use Rattle.bptree_batches.proofs.EachLemmas.{group_more, mapped_group_more, all_answered}
+use Rattle.bptree_batches.proofs.EachLemmas.{group_more, mapped_group_more, all_returned}
 use Rattle.bptree_batches.proofs.many.copy_index_many.Goals as goal
 
 pub groups-preserved : goal.groups-preserved
@@ -29,4 +29,4 @@ groups-preserved g c =
 pub returns-clause-marks : goal.returns-clause-marks
 returns-clause-marks g c =
     let pairs = c.args.tree.now.contents in
-    all_answered (λ i. if is_some (slice_get pairs i) then c.args.hit else c.args.miss) c.args.indexes.now c.args.marks.now c.groups.marks c.groups.at c.groups.invariant.marks (omega arith) c.requires.marks
+    all_returned (λ i. if is_some (slice_get pairs i) then c.args.hit else c.args.miss) c.args.indexes.now c.args.marks.now c.groups.marks c.groups.at c.groups.invariant.marks (omega arith) c.requires.marks

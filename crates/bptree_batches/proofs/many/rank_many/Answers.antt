@@ -1,6 +1,6 @@
 use Rattle.std.proofs.Common.{ap, length}
 use Rattle.bptree_arguments.specs.CountLaws.{CountsKeys}
-use Rattle.bptree_descents.proofs.Summed.{whole_subtree}
+use Rattle.bptree_search.proofs.Summed.{whole_subtree}
 use Rattle.bptree_batches.proofs.many.rank_many.Goals as goal
 
 pub rank_groups-requires-clause-subtree : goal.rank_groups-requires-clause-subtree

@@ -2,10 +2,10 @@ use Rattle.std.proofs.Common.{◌≡◌, Ok, get_or, sym, ap, subst, ◌∙◌, 
 use Rattle.std.specs.Map.{keys_of}
 use Rattle.bptree_arguments.specs.CountLaws.{count_below}
 use Rattle.bptree_keys.specs.declared.node_id.NodeId.TheVariants.{Inner}
-use Rattle.bptree_shape.specs.Shape.{pairs_at}
+use Rattle.bptree_invariant.specs.Shape.{pairs_at}
 use Rattle.bptree_batches.specs.RankWays.{IsRankWay}
 use Rattle.bptree_batches.specs.Slots.{AreLeavesThere}
-use Rattle.bptree_batches.proofs.EachLemmas.{answered_more, all_answered}
+use Rattle.bptree_batches.proofs.EachLemmas.{returned_more, all_returned}
 use Rattle.bptree_batches.proofs.RankSlotLemmas.{slot_of_way, ways_end}
 use Rattle.bptree_batches.proofs.RankWayLemmas.{rank_end}
 use Rattle.bptree_batches.proofs.Split.{zip_at, zip_length}
@@ -46,11 +46,11 @@ keys-preserved g c =
     let rank_there : c.rank_in_leaf.result ≡ count_below cmp (get_or keys n key) (keys_of pairs) = rank ∙ ap (λ k. count_below cmp k (keys_of pairs)) c.index-keys-at.is in
     record {
       within = omega arith;
-      ranks = answered_more (λ k old. count_below cmp k (keys_of pairs)) keys c.args.ranks.now c.keys.ranks n key c.rank_in_leaf.result i.ranks inside c.requires.ranks (λ old. rank_there);
+      ranks = returned_more (λ k old. count_below cmp k (keys_of pairs)) keys c.args.ranks.now c.keys.ranks n key c.rank_in_leaf.result i.ranks inside c.requires.ranks (λ old. rank_there);
     }
 
 pub returns : goal.returns
 returns g c =
     let cmp = g.S.K.Ord.cmp in
     let pairs = pairs_at (g.S.NodeStore.slots c.args.store.now) c.args.height c.args.root in
-    all_answered (λ k. count_below cmp k (keys_of pairs)) c.args.keys.now c.args.ranks.now c.keys.ranks c.keys.at c.keys.invariant.ranks (omega arith) c.requires.ranks
+    all_returned (λ k. count_below cmp k (keys_of pairs)) c.args.keys.now c.args.ranks.now c.keys.ranks c.keys.at c.keys.invariant.ranks (omega arith) c.requires.ranks

@@ -1,8 +1,8 @@
 use Rattle.std.proofs.Common.{◌≡◌, ◌+◌, ◌-◌, ◌≤◌, length, arith}
 use Rattle.std.specs.Map.{keys_of}
 use Rattle.bptree_arguments.specs.CountLaws.{count_below}
-use Rattle.bptree_shape.specs.Shape.{pairs_at}
-use Rattle.bptree_batches.proofs.EachLemmas.{mapped_group_more, all_answered}
+use Rattle.bptree_invariant.specs.Shape.{pairs_at}
+use Rattle.bptree_batches.proofs.EachLemmas.{mapped_group_more, all_returned}
 use Rattle.bptree_batches.proofs.ranks.rank_groups.Goals as goal
 
 pub groups-preserved : goal.groups-preserved
@@ -25,4 +25,4 @@ pub returns : goal.returns
 returns g c =
     let cmp = g.S.K.Ord.cmp in
     let pairs = pairs_at (g.S.NodeStore.slots c.args.store.now) c.args.height c.args.root in
-    all_answered (λ k. count_below cmp k (keys_of pairs)) c.args.keys.now c.args.ranks.now c.groups.ranks c.groups.at c.groups.invariant.ranks (omega arith) c.requires.ranks
+    all_returned (λ k. count_below cmp k (keys_of pairs)) c.args.keys.now c.args.ranks.now c.groups.ranks c.groups.at c.groups.invariant.ranks (omega arith) c.requires.ranks

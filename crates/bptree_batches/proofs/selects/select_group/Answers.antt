@@ -2,7 +2,7 @@ use Rattle.std.proofs.Common.{◌≡◌, get_or, slice_get, ◌∙◌, arith}
 use Rattle.std.specs.Map.Iter.{deref_pair}
 use Rattle.std.specs.Option.{option_map}
 use Rattle.bptree_keys.specs.declared.node_id.NodeId.TheVariants.{Inner}
-use Rattle.bptree_shape.specs.Shape.{pairs_at}
+use Rattle.bptree_invariant.specs.Shape.{pairs_at}
 use Rattle.bptree_batches.specs.SelectWays.{IsSelectWay}
 use Rattle.bptree_batches.proofs.SelectLemmas.{shown_more, all_shown}
 use Rattle.bptree_batches.proofs.Split.{zip_at}

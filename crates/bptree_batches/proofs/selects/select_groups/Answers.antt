@@ -1,7 +1,7 @@
 use Rattle.std.proofs.Common.{◌≡◌, ◌+◌, ◌-◌, ◌≤◌, length, slice_get, arith}
 use Rattle.std.specs.Map.Iter.{deref_pair}
 use Rattle.std.specs.Option.{option_map}
-use Rattle.bptree_shape.specs.Shape.{pairs_at}
+use Rattle.bptree_invariant.specs.Shape.{pairs_at}
 use Rattle.bptree_batches.proofs.SelectLemmas.{shown_group_more, all_shown}
 use Rattle.bptree_batches.proofs.selects.select_groups.Goals as goal
 

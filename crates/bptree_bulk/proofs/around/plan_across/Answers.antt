@@ -7,8 +7,8 @@ use Rattle.bptree_bulk.specs.Cut.{first_key}
 use Rattle.bptree_keys.specs.Contents.{IsAscending}
 use Rattle.bptree_keys.specs.Ranges.{part}
 use Rattle.bptree_ranges.proofs.Sums.{two_pushed}
-use Rattle.bptree_shape.specs.Leaves.{pairs_of}
-use Rattle.bptree_shape.proofs.Ordered.{ascending_after}
+use Rattle.bptree_invariant.specs.Leaves.{pairs_of}
+use Rattle.bptree_invariant.proofs.Ordered.{ascending_after}
 use Rattle.bptree_bulk.proofs.around.plan_across.Goals as goal
 
 pub returns : goal.returns

@@ -1,7 +1,7 @@
 use Rattle.std.proofs.Common.{◌≡◌, ◌∙◌, ◌-◌, ◌∷◌, ◌++◌, [], ap, append-nil, append_assoc, arith, drop, length, length-append, refl, subst, sym, take}
 use Rattle.std.proofs.lemmas.List.{length-drop, length-take-le}
 use Rattle.std.specs.List.{AllByRecursion}
-use Rattle.bptree_building.specs.Plans.{Plans}
+use Rattle.bptree_bulk_load.specs.Plans.{Plans}
 use Rattle.bptree_bulk.proofs.Kept.{part_first}
 use Rattle.bptree_bulk.proofs.Segments.{drop_more}
 use Rattle.bptree_bulk.proofs.Tails.{parts_more, sized}
@@ -9,7 +9,7 @@ use Rattle.bptree_bulk.specs.Filling.{AreParts, IsEmptyLeaf, IsSize}
 use Rattle.bptree_bulk.specs.Gap.{kept_of, without_part}
 use Rattle.bptree_keys.specs.Ranges.{part}
 use Rattle.bptree_keys.proofs.PieceLemmas.{AllByRecursion-append}
-use Rattle.bptree_shape.specs.Leaves.{pairs_of}
+use Rattle.bptree_invariant.specs.Leaves.{pairs_of}
 use Rattle.bptree_bulk.proofs.around.plan_border.Goals as goal
 
 pub parts-init : goal.parts-init

@@ -1,10 +1,10 @@
 -- The parts that are planned so far, and an empty leaf for each.
 use Rattle.std.proofs.Common.{◌≡◌, ◌-◌, ◌≤◌, List, drop, length}
 use Rattle.std.specs.List.{AllByRecursion}
-use Rattle.bptree_building.specs.Plans.{AddsParts}
+use Rattle.bptree_bulk_load.specs.Plans.{AddsParts}
 use Rattle.bptree_bulk.specs.Filling.{AreParts, IsEmptyLeaf}
 use Rattle.bptree_bulk.specs.Gap.{kept_of}
-use Rattle.bptree_shape.specs.Leaves.{pairs_of}
+use Rattle.bptree_invariant.specs.Leaves.{pairs_of}
 use Rattle.bptree_bulk.proofs.around.plan_border.Given as goal
 
 abbrev pub invariant-parts : goal.invariant-parts

@@ -5,7 +5,7 @@ use Rattle.std.specs.Option.{option_copied}
 use Rattle.bptree_bulk.proofs.Segments.{has_first, piece}
 use Rattle.bptree_bulk.specs.Cut.{first_key}
 use Rattle.bptree_keys.specs.Ranges.{between}
-use Rattle.bptree_shape.specs.Leaves.{pairs_of}
+use Rattle.bptree_invariant.specs.Leaves.{pairs_of}
 use Rattle.bptree_bulk.proofs.around.sum_piece.Goals as goal
 
 pub returns : goal.returns

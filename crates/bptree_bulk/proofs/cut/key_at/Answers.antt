@@ -1,6 +1,6 @@
 use Rattle.std.proofs.Common.{◌≡◌, ◌∙◌, ◌+◌, ◌-◌, ◌++◌, arith, ap, drop, sym}
-use Rattle.bptree_shape.specs.Leaves.{pairs_of}
-use Rattle.bptree_shape.specs.Shape.{leaf_pairs}
+use Rattle.bptree_invariant.specs.Leaves.{pairs_of}
+use Rattle.bptree_invariant.specs.Shape.{leaf_pairs}
 use Rattle.bptree_bulk.proofs.Cuts.{drop_past, key_here, pairs_from}
 use Rattle.bptree_bulk.specs.Cut.{first_key}
 use Rattle.bptree_bulk.proofs.cut.key_at.Goals as goal

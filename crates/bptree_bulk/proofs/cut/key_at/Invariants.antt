@@ -1,5 +1,5 @@
 use Rattle.std.proofs.Common.{◌≡◌, ◌-◌, ◌≤◌, length, drop}
-use Rattle.bptree_shape.specs.Leaves.{pairs_of}
+use Rattle.bptree_invariant.specs.Leaves.{pairs_of}
 use Rattle.bptree_bulk.proofs.cut.key_at.Given as goal
 
 abbrev pub invariant-ids : goal.invariant-ids

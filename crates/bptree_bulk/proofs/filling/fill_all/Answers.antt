@@ -2,7 +2,7 @@ use Rattle.std.proofs.Common.{◌≡◌, ◌∙◌, ◌∷◌, ◌++◌, ◌<◌
 use Rattle.std.specs.List.{AllByRecursion}
 use Rattle.std.specs.Option.{option_to_list}
 use Rattle.std.specs.Vec.Iter.{into_iter_items}
-use Rattle.bptree_building.specs.Rooms.{parts_of}
+use Rattle.bptree_bulk_load.specs.Rooms.{parts_of}
 use Rattle.bptree_bulk.specs.Filling.{AreParts, IsEmptyLeaf, IsSize}
 use Rattle.bptree_bulk.proofs.Tails.{filled_more, next_part, no_part, IsPartlyFilled}
 use Rattle.bptree_bulk.proofs.filling.fill_all.Goals as goal

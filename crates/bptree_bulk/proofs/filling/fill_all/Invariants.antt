@@ -2,7 +2,7 @@ use Rattle.std.proofs.Common.{◌≡◌, ◌+◌, ◌≤◌, ◌++◌, [], List,
 use Rattle.std.specs.Prelude.{vec_capacity, vec_len}
 use Rattle.std.specs.List.{AllByRecursion}
 use Rattle.std.specs.Vec.Iter.{into_iter_items, into_iter_len}
-use Rattle.bptree_building.specs.Rooms.{parts_of}
+use Rattle.bptree_bulk_load.specs.Rooms.{parts_of}
 use Rattle.bptree_bulk.specs.Filling.{AreParts, IsEmptyLeaf}
 use Rattle.bptree_bulk.proofs.Tails.{IsPartlyFilled}
 use Rattle.bptree_bulk.proofs.filling.fill_all.Given as goal

@@ -1,7 +1,7 @@
 use Rattle.std.proofs.Common.{◌≡◌, ap, length, subst, sym, ◌∙◌}
 use Rattle.std.specs.Vec.Iter.{into_iter_items}
-use Rattle.bptree_building.specs.Plans.{Frames}
-use Rattle.bptree_building.specs.Rooms.{joined, parts_of}
+use Rattle.bptree_bulk_load.specs.Plans.{Frames}
+use Rattle.bptree_bulk_load.specs.Rooms.{joined, parts_of}
 use Rattle.bptree_bulk.proofs.Tails.{all_filled}
 use Rattle.bptree_keys.specs.Contents.{IsAscending}
 use Rattle.bptree_bulk.proofs.filling.plant_filling.Given.{Over}

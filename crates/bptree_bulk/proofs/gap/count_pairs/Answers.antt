@@ -2,7 +2,7 @@ use Rattle.std.proofs.Common.{◌≡◌, ◌∙◌, ◌+◌, length, arith, ap}
 use Rattle.bptree_bulk.proofs.Cuts.{all_pairs_before, next_pairs}
 use Rattle.bptree_bulk.proofs.Gaps.{pairs_within}
 use Rattle.bptree_bulk.specs.Cut.{pairs_before}
-use Rattle.bptree_shape.specs.Shape.{leaf_pairs}
+use Rattle.bptree_invariant.specs.Shape.{leaf_pairs}
 use Rattle.bptree_bulk.proofs.gap.count_pairs.Goals as goal
 
 pub overflow_add-count : goal.overflow_add-count

@@ -1,16 +1,16 @@
 use Rattle.std.proofs.Common.{rules, ◌≡◌, ◌∙◌, ◌+◌, ◌-◌, ◌<◌, ◌≤◌, ◌^◌, length, take, drop, arith, ap, refl, sym}
-use Rattle.bptree_building.specs.Rooms.{IsPresentAt}
+use Rattle.bptree_bulk_load.specs.Rooms.{IsPresentAt}
 use Rattle.bptree_bulk.specs.Cut.{pairs_before, BeginsBorder, EndsBorder}
 use Rattle.bptree_bulk.proofs.Gaps.{are_spots, gap_made, pairs_between, pairs_within, AreSpots}
 use Rattle.bptree_bulk.proofs.OwnLeaves.{all_read, own_least, own_pairs, own_present}
 use Rattle.bptree_bulk.proofs.Sides.{all_dropped, all_taken}
-use Rattle.bptree_shape.specs.Leaves.{pairs_of}
-use Rattle.bptree_shape.specs.Shape.{leaf_pairs}
+use Rattle.bptree_invariant.specs.Leaves.{pairs_of}
+use Rattle.bptree_invariant.specs.Shape.{leaf_pairs}
 use Rattle.bptree_bulk.proofs.gap.gap_between.Given.{Over}
 use Rattle.bptree_bulk.proofs.gap.gap_between.Goals.{After-count_pairs, After-index_of-j, After-leaf_before-from, After-leaf_behind-to, After-len-here}
 use Rattle.bptree_bulk.proofs.gap.gap_between.Goals as goal
 
--- where both positions are among the leaves, and that the sums fit
+-- the indexes of both positions' leaves; the sums fit
 spots_of : (g : Over) (c : After-index_of-j g) → AreSpots (g.S.NodeStore.slots c.args.tree.now.store) c.args.tree.now.height c.args.tree.now.root c.args.ids.now c.args.lo c.args.hi c.index_of-i.result c.index_of-j.result
 spots_of g c =
     let tree = c.args.tree.now in
@@ -20,7 +20,7 @@ spots_of g c =
 few_of : (g : Over) (c : After-index_of-j g) → length (pairs_of (g.S.NodeStore.slots c.args.tree.now.store) c.args.ids.now) < 2 ^ 64
 few_of g c = omega (arith, c.recall.ensures.fits, ap length (own_pairs c.recall.ensures.whole c.requires.ids))
 
--- the leaves around them
+-- the border begins at the leaf before the first position's leaf, or at that leaf
 begins_of : (g : Over) (c : After-leaf_before-from g) → BeginsBorder (g.S.NodeStore.slots c.args.tree.now.store) c.args.ids.now c.index_of-i.result c.leaf_before-from.result.0 c.leaf_before-from.result.1
 begins_of g c =
     let same : c.tree.inside.store ≡ c.args.tree.now.store = ap (λ t. t.store) c.tree.view_is in
@@ -31,7 +31,7 @@ ends_of g c =
     let same : c.tree.inside.store ≡ c.args.tree.now.store = ap (λ t. t.store) c.tree.view_is in
     rw same at c.leaf_behind-to.ensures
 
--- the pairs before the leaf of the second position
+-- the pairs before the second position's leaf are those before the border, and those counted
 inner_of : (g : Over) (c : After-count_pairs g) → c.index_of-i.result ≤ c.index_of-j.result
     → pairs_before (g.S.NodeStore.slots c.args.tree.now.store) c.args.ids.now c.index_of-j.result ≡ pairs_before (g.S.NodeStore.slots c.args.tree.now.store) c.args.ids.now c.leaf_before-from.result.0 + c.count_pairs.result
 inner_of g c order =
@@ -40,7 +40,7 @@ inner_of g c order =
     let same : c.tree.inside.store ≡ c.args.tree.now.store = ap (λ t. t.store) c.tree.view_is in
     pairs_between slots c.args.ids.now from c.index_of-j.result (omega (arith, c.leaf_before-from.ensures.order, order)) ∙ ap (λ n. pairs_before slots c.args.ids.now from + n) (sym (rw same at c.count_pairs.ensures))
 
--- how many are in it
+-- the number of pairs in the second position's leaf
 here_of : (g : Over) (c : After-len-here g) → c.len-here.result ≡ length (leaf_pairs ((g.S.NodeStore.slots c.args.tree.now.store).leaf c.args.hi.leaf.0))
 here_of g c =
     let same : c.tree.inside.store ≡ c.args.tree.now.store = ap (λ t. t.store) c.tree.view_is in

@@ -1,11 +1,11 @@
 use Rattle.std.proofs.Common.{◌≡◌, ◌∙◌, ◌≤◌, ◌++◌, [], ap, arith, length, length-append, map, subst, sym}
-use Rattle.bptree_building.specs.Plans.{Frames}
-use Rattle.bptree_building.specs.Rooms.{id_count, joined, pairs_under, parts_of, IsPresentAt}
+use Rattle.bptree_bulk_load.specs.Plans.{Frames}
+use Rattle.bptree_bulk_load.specs.Rooms.{id_count, joined, pairs_under, parts_of, IsPresentAt}
 use Rattle.bptree_bulk.specs.Joining.{parts_of_both}
 use Rattle.bptree_bulk.proofs.Joins.{joined_both}
 use Rattle.bptree_bulk.proofs.OwnLeaves.{all_read, own_once, own_pairs, own_present, pairs_read}
 use Rattle.bptree_keys.specs.Contents.{IsAscending}
-use Rattle.bptree_shape.specs.Leaves.{pairs_of}
+use Rattle.bptree_invariant.specs.Leaves.{pairs_of}
 use Rattle.bptree_bulk.proofs.joining.join.Given.{Over}
 use Rattle.bptree_bulk.proofs.joining.join.Goals.{After-take_leaves-2}
 use Rattle.bptree_bulk.proofs.joining.join.Goals as goal
@@ -32,7 +32,7 @@ taken g c =
     let first = pairs_read slots (ap (λ t. t.store) c.first.view_is) c.deref.ensures.value (parts_of c.take_leaves.new.leaves.items) (parts_of c.args.joint.leaves.items) [] (ap parts_of c.requires.joint.room.0) c.take_leaves.ensures.leaves in
     pairs_read slots (ap (λ t. t.store) c.second.view_is) c.deref-2.ensures.value (parts_of c.take_leaves-2.new.leaves.items) (parts_of c.take_leaves.new.leaves.items) one first c.take_leaves-2.ensures.leaves
 
--- their pairs are those of both trees
+-- the pairs of these leaves are those of both trees
 pairs : (g : Over) (c : After-take_leaves-2 g) → joined (parts_of c.take_leaves-2.new.leaves.items) ≡ c.args.first.contents ++ c.args.second.contents
 pairs g c =
     let slots = g.S.NodeStore.slots in

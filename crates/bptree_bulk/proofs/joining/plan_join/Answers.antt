@@ -1,10 +1,10 @@
 use Rattle.std.proofs.Common.{◌≡◌, ◌∙◌, ◌++◌, [], ap, arith, length-append, map, subst}
-use Rattle.bptree_building.specs.Plans.{Plans, PlansAll}
-use Rattle.bptree_building.specs.Rooms.{pairs_under, IsFilledAt}
+use Rattle.bptree_bulk_load.specs.Plans.{Plans, PlansAll}
+use Rattle.bptree_bulk_load.specs.Rooms.{pairs_under, IsFilledAt}
 use Rattle.bptree_bulk.specs.Joining.{parts_of_both}
 use Rattle.bptree_bulk.proofs.Joins.{both_planned, filled_each, least_each}
 use Rattle.bptree_bulk.proofs.OwnLeaves.{all_read, own_pairs}
-use Rattle.bptree_shape.specs.Leaves.{pairs_of}
+use Rattle.bptree_invariant.specs.Leaves.{pairs_of}
 use Rattle.bptree_bulk.proofs.joining.plan_join.Given.{Over}
 use Rattle.bptree_bulk.proofs.joining.plan_join.Goals.{In_ok-plan_leaves-2}
 use Rattle.bptree_bulk.proofs.joining.plan_join.Goals as goal

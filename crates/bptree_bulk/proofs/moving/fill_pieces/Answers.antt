@@ -1,6 +1,6 @@
 use Rattle.std.proofs.Common.{arith, subst, ◌≡◌, ◌++◌, ◌∷◌, ◌-◌, [], take}
 use Rattle.bptree_bulk.proofs.Passed.{filled_two}
-use Rattle.bptree_building.specs.Rooms.{parts_of}
+use Rattle.bptree_bulk_load.specs.Rooms.{parts_of}
 use Rattle.std.specs.Vec.Iter.{into_iter_items}
 use Rattle.bptree_bulk.proofs.moving.fill_pieces.Goals as goal
 

@@ -1,5 +1,5 @@
 use Rattle.std.proofs.Common.{◌≡◌, ◌+◌, ◌-◌, ◌≤◌, length, drop}
-use Rattle.bptree_building.specs.Rooms.{joined, parts_of}
+use Rattle.bptree_bulk_load.specs.Rooms.{joined, parts_of}
 use Rattle.bptree_bulk.proofs.moving.pairs_in.Given as goal
 
 abbrev pub invariant-leaves : goal.invariant-leaves

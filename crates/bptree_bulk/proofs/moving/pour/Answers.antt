@@ -1,7 +1,7 @@
 use Rattle.std.proofs.Common.{◌≡◌, ◌∙◌, ◌∷◌, ◌++◌, length, arith, ap, sym}
 use Rattle.std.specs.Option.{option_to_list}
 use Rattle.std.specs.Vec.Iter.{into_iter_items}
-use Rattle.bptree_building.proofs.Standing.{counted_on}
+use Rattle.bptree_bulk_load.proofs.Standing.{counted_on}
 use Rattle.bptree_bulk.proofs.Passed.{poured_len, poured_one, rest_one}
 use Rattle.bptree_bulk.proofs.moving.pour.Goals as goal
 

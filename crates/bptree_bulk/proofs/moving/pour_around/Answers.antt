@@ -1,7 +1,7 @@
 use Rattle.std.proofs.Common.{◌≡◌, ◌∙◌, ◌-◌, ◌∷◌, ◌++◌, length, append_assoc, append-nil, arith, ap, refl, sym}
 use Rattle.std.specs.Option.{option_to_list}
 use Rattle.std.specs.Vec.Iter.{into_iter_items}
-use Rattle.bptree_building.proofs.Standing.{counted_on}
+use Rattle.bptree_bulk_load.proofs.Standing.{counted_on}
 use Rattle.bptree_bulk.specs.Gap.{without_part}
 use Rattle.bptree_bulk.specs.Moving.{poured_around}
 use Rattle.bptree_bulk.proofs.Passed.{rest_one}

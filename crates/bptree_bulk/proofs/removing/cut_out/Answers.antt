@@ -3,8 +3,8 @@ use Rattle.bptree_bulk.specs.Gap.{without_part}
 use Rattle.bptree_bulk.proofs.Removals.{without_ascends, without_shorter}
 use Rattle.bptree_bulk.proofs.removing.cut_out.Goals as goal
 
-pub stand-requires : goal.stand-requires
-stand-requires g c =
+pub assemble-requires : goal.assemble-requires
+assemble-requires g c =
     let from = c.requires.0 in
     let to = c.requires.1 in
     let is = c.requires.2 in
@@ -17,4 +17,4 @@ stand-requires g c =
     )
 
 pub returns-clause-contents : goal.returns-clause-contents
-returns-clause-contents g c from to is = c.stand.ensures.contents (without_part from to c.args.tree.contents) (c.deal_around.ensures from to is)
+returns-clause-contents g c from to is = c.assemble.ensures.contents (without_part from to c.args.tree.contents) (c.deal_around.ensures from to is)

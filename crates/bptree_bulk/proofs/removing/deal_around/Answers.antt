@@ -1,7 +1,7 @@
 use Rattle.std.proofs.Common.{◌≡◌, ◌∙◌, ◌-◌, ◌≤◌, ◌++◌, [], ap, arith, drop, length, map, subst, sym, take}
 use Rattle.std.specs.Vec.Iter.{into_iter_items}
-use Rattle.bptree_building.specs.Plans.{Frames}
-use Rattle.bptree_building.specs.Rooms.{id_count, joined, pairs_under, parts_of, IsPresentAt}
+use Rattle.bptree_bulk_load.specs.Plans.{Frames}
+use Rattle.bptree_bulk_load.specs.Rooms.{id_count, joined, pairs_under, parts_of, IsPresentAt}
 use Rattle.bptree_bulk.specs.Filling.{AreParts}
 use Rattle.bptree_bulk.specs.Gap.{gap_ends, without_part}
 use Rattle.bptree_bulk.specs.Moving.{poured}
@@ -9,7 +9,7 @@ use Rattle.bptree_bulk.specs.Removing.{border_kept}
 use Rattle.bptree_bulk.proofs.Gaps.{edge, kept_is, kept_len}
 use Rattle.bptree_bulk.proofs.OwnLeaves.{all_read, own_once, own_pairs, own_present, pairs_read}
 use Rattle.bptree_bulk.proofs.Removals.{around_all, around_dealt, poured_edge}
-use Rattle.bptree_shape.specs.Leaves.{pairs_of}
+use Rattle.bptree_invariant.specs.Leaves.{pairs_of}
 use Rattle.bptree_bulk.proofs.removing.deal_around.Given.{Over}
 use Rattle.bptree_bulk.proofs.removing.deal_around.Goals.{After-pass}
 use Rattle.bptree_bulk.proofs.removing.deal_around.Goals as goal
@@ -21,11 +21,11 @@ take_leaves-requires-clause-present g c =
 pub take_leaves-requires-clause-once : goal.take_leaves-requires-clause-once
 take_leaves-requires-clause-once g c n = subst (λ l. id_count l n ≤ 1) (sym c.deref.ensures.value) (own_once c.recall.ensures.whole c.requires.2.ids n)
 
--- the leaves that were taken out are those under the numbers
+-- the leaves that were taken out are those under the leaf ids
 taken : (g : Over) (c : After-pass g) → parts_of c.take_leaves.new.leaves.items ≡ map (pairs_under (g.S.NodeStore.slots c.args.tree.store)) c.args.removal.ids.items
 taken g c = pairs_read g.S.NodeStore.slots (ap (λ t. t.store) c.tree.view_is) c.deref.ensures.value (parts_of c.take_leaves.new.leaves.items) (parts_of c.args.removal.old.items) [] (ap parts_of c.requires.2.old.0) c.take_leaves.ensures.leaves
 
--- those that are left behind the ones that stay before the border
+-- the leaves that are left come behind those that stay before the border
 passed : (g : Over) (c : After-pass g) → into_iter_items c.pass.new.items ≡ drop c.args.removal.gap.from c.take_leaves.new.leaves.items
 passed g c = c.pass.ensures.rest ∙ ap (drop c.args.removal.gap.from) c.into_iter-boxes.ensures.rest
 

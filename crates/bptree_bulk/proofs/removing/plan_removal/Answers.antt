@@ -1,17 +1,17 @@
 use Rattle.std.proofs.Common.{◌≡◌, ◌∙◌, ◌-◌, ◌≤◌, ◌++◌, [], List, ap, append_assoc, arith, drop, length, map, subst, sym, take}
 use Rattle.std.proofs.lemmas.List.{take_rest}
 use Rattle.std.specs.List.{AllByRecursion}
-use Rattle.bptree_building.specs.Plans.{Plans, PlansAll}
-use Rattle.bptree_building.specs.Rooms.{pairs_under, IsFilledAt}
+use Rattle.bptree_bulk_load.specs.Plans.{Plans, PlansAll}
+use Rattle.bptree_bulk_load.specs.Rooms.{pairs_under, IsFilledAt}
 use Rattle.bptree_bulk.specs.Filling.{AreParts, IsEmptyLeaf}
 use Rattle.bptree_bulk.specs.Gap.{gap_begins, gap_ends, kept_of, without_part, IsGap}
-use Rattle.bptree_bulk.specs.Positions.{place_of}
+use Rattle.bptree_bulk.specs.Positions.{index_of_position}
 use Rattle.bptree_bulk.specs.Removing.{border_kept, parts_around}
 use Rattle.bptree_bulk.proofs.Gaps.{behind_in_rest, kept_within}
 use Rattle.bptree_bulk.proofs.OwnLeaves.{all_read, own_filled, own_least, own_pairs, rest_last, rest_present}
 use Rattle.bptree_bulk.proofs.Removals.{all_before, all_behind, around_planned}
 use Rattle.bptree_keys.specs.Contents.{IsAscending}
-use Rattle.bptree_shape.specs.Leaves.{pairs_of}
+use Rattle.bptree_invariant.specs.Leaves.{pairs_of}
 use Rattle.bptree_bulk.proofs.removing.plan_removal.Given.{Over}
 use Rattle.bptree_bulk.proofs.removing.plan_removal.Goals.{After-gap_between-gap, After-deref-3, After-deref-4, In_ok-plan_leaves-2}
 use Rattle.bptree_bulk.proofs.removing.plan_removal.Goals as goal
@@ -24,7 +24,7 @@ is_gap g c = subst (λ xs. IsGap (g.S.NodeStore.slots c.args.tree.now.store) xs 
 from_border : (g : Over) (c : After-deref-3 g) → take (length c.deref-3.result.now - c.gap_between-gap.result.from) (drop c.gap_between-gap.result.from c.deref-3.result.now) ≡ drop c.gap_between-gap.result.from c.in_ok-ids.ids.items
 from_border g c = take_rest c.deref-3.result.now c.gap_between-gap.result.from ∙ ap (drop c.gap_between-gap.result.from) c.deref-3.ensures.value
 
--- those behind it
+-- the leaves behind the border
 behind_border : (g : Over) (c : After-deref-4 g) → take (length c.deref-4.result.now - c.gap_between-gap.result.to) (drop c.gap_between-gap.result.to c.deref-4.result.now) ≡ drop c.gap_between-gap.result.to c.in_ok-ids.ids.items
 behind_border g c = take_rest c.deref-4.result.now c.gap_between-gap.result.to ∙ ap (drop c.gap_between-gap.result.to) c.deref-4.ensures.value
 
@@ -103,8 +103,8 @@ returns g c =
     record {
       ids = c.in_ok-ids.ensures;
       gap = is_gap g at.After-gap_between-gap;
-      begins = subst (λ xs. gap_begins slots xs gap ≡ place_of g.S.NodeStore.slots c.args.tree.now c.args.lo) c.deref.ensures.value c.gap_between-gap.ensures.begins;
-      ends = subst (λ xs. gap_ends slots xs gap ≡ place_of g.S.NodeStore.slots c.args.tree.now c.args.hi) c.deref.ensures.value c.gap_between-gap.ensures.ends;
+      begins = subst (λ xs. gap_begins slots xs gap ≡ index_of_position g.S.NodeStore.slots c.args.tree.now c.args.lo) c.deref.ensures.value c.gap_between-gap.ensures.begins;
+      ends = subst (λ xs. gap_ends slots xs gap ≡ index_of_position g.S.NodeStore.slots c.args.tree.now c.args.hi) c.deref.ensures.value c.gap_between-gap.ensures.ends;
       parts = border.0;
       are = border.1;
       framed = c.in_ok-frame.ensures (parts_around slots ids gap border.0) border.2;

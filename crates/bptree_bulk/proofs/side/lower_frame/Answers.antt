@@ -1,8 +1,8 @@
 use Rattle.std.proofs.Common.{◌≡◌, [], ap, arith, map, refl, take}
 use Rattle.std.proofs.lemmas.List.{take_rest}
 use Rattle.std.proofs.lemmas.Result.{IfOk-weaker}
-use Rattle.bptree_building.specs.Plans.{PlansAll}
-use Rattle.bptree_building.specs.Rooms.{pairs_under, IsFilledAt}
+use Rattle.bptree_bulk_load.specs.Plans.{PlansAll}
+use Rattle.bptree_bulk_load.specs.Rooms.{pairs_under, IsFilledAt}
 use Rattle.bptree_bulk.specs.Cut.{lower_parts}
 use Rattle.bptree_bulk.proofs.OwnLeaves.{all_read, own_filled, rest_last, rest_present}
 use Rattle.bptree_bulk.proofs.SidePlans.{lower_plan}

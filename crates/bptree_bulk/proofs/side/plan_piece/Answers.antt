@@ -4,7 +4,7 @@ use Rattle.std.specs.Option.{option_copied}
 use Rattle.std.proofs.lemmas.Result.{IfOk-weaker}
 use Rattle.bptree_bulk.proofs.Segments.{has_first, is_some, piece, piece_len}
 use Rattle.bptree_keys.specs.Ranges.{between, part}
-use Rattle.bptree_shape.specs.Leaves.{pairs_of}
+use Rattle.bptree_invariant.specs.Leaves.{pairs_of}
 use Rattle.bptree_bulk.proofs.side.plan_piece.Goals as goal
 
 pub unwrap-first-requires : goal.unwrap-first-requires

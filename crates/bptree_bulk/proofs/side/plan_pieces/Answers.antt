@@ -1,10 +1,10 @@
 use Rattle.std.proofs.Common.{◌≡◌, ◌+◌, ◌-◌, ◌++◌, ◌∷◌, [], ap, arith, drop, length, length-append, refl, subst, sym, take}
 use Rattle.std.proofs.lemmas.Result.{IfOk-weaker}
-use Rattle.bptree_building.specs.Rooms.{ArePlanned}
+use Rattle.bptree_bulk_load.specs.Rooms.{ArePlanned}
 use Rattle.bptree_bulk.proofs.Passed.{filled_two}
 use Rattle.bptree_bulk.proofs.Segments.{drop_more}
 use Rattle.bptree_keys.specs.Ranges.{part}
-use Rattle.bptree_shape.specs.Leaves.{pairs_of}
+use Rattle.bptree_invariant.specs.Leaves.{pairs_of}
 use Rattle.bptree_bulk.proofs.side.plan_pieces.Goals as goal
 
 pub overflow_add-from : goal.overflow_add-from

@@ -1,8 +1,8 @@
 use Rattle.std.proofs.Common.{◌≡◌, [], ap, arith}
 use Rattle.std.proofs.lemmas.List.{take_rest}
 use Rattle.std.proofs.lemmas.Result.{IfOk-weaker}
-use Rattle.bptree_building.specs.Plans.{PlansAll}
-use Rattle.bptree_building.specs.Rooms.{IsFilledAt}
+use Rattle.bptree_bulk_load.specs.Plans.{PlansAll}
+use Rattle.bptree_bulk_load.specs.Rooms.{IsFilledAt}
 use Rattle.bptree_bulk.specs.Cut.{upper_parts}
 use Rattle.bptree_bulk.proofs.OwnLeaves.{all_read, own_filled, rest_last, rest_present}
 use Rattle.bptree_bulk.proofs.SidePlans.{upper_plan}

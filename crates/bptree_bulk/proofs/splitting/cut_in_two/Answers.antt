@@ -1,12 +1,12 @@
 use Rattle.std.proofs.Common.{ap, arith, drop, length, length-append, subst, sym, take}
 use Rattle.std.proofs.lemmas.List.{take-append-drop}
 use Rattle.bptree_keys.specs.Contents.{IsAscending}
-use Rattle.bptree_shape.proofs.Ordered.{ascending_after}
-use Rattle.bptree_shape.proofs.Spot.{ascending_before}
+use Rattle.bptree_invariant.proofs.Ordered.{ascending_after}
+use Rattle.bptree_invariant.proofs.Spot.{ascending_before}
 use Rattle.bptree_bulk.proofs.splitting.cut_in_two.Goals as goal
 
-pub stand-requires : goal.stand-requires
-stand-requires g c =
+pub assemble-requires : goal.assemble-requires
+assemble-requires g c =
     let n = c.requires.0 in
     let all = c.args.tree.contents in
     let parts = sym (take-append-drop n all) in (
@@ -16,8 +16,8 @@ stand-requires g c =
       omega (arith, c.recall.ensures.fits, ap length parts, length-append (take n all) (drop n all)),
     )
 
-pub stand-requires-2 : goal.stand-requires-2
-stand-requires-2 g c =
+pub assemble-requires-2 : goal.assemble-requires-2
+assemble-requires-2 g c =
     let n = c.requires.0 in
     let all = c.args.tree.contents in
     let parts = sym (take-append-drop n all) in (
@@ -28,7 +28,7 @@ stand-requires-2 g c =
     )
 
 pub returns-clause-lower : goal.returns-clause-lower
-returns-clause-lower g c n split = c.stand.ensures.contents (take n c.args.tree.contents) (c.deal-lower.ensures.lower n split)
+returns-clause-lower g c n split = c.assemble.ensures.contents (take n c.args.tree.contents) (c.deal-lower.ensures.lower n split)
 
 pub returns-clause-upper : goal.returns-clause-upper
-returns-clause-upper g c n split = c.stand-2.ensures.contents (drop n c.args.tree.contents) (c.deal-lower.ensures.upper n split)
+returns-clause-upper g c n split = c.assemble-2.ensures.contents (drop n c.args.tree.contents) (c.deal-lower.ensures.upper n split)

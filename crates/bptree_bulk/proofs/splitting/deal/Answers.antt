@@ -1,8 +1,8 @@
 use Rattle.std.proofs.Common.{◌≡◌, ◌∙◌, ◌-◌, ◌≤◌, ◌++◌, [], ap, arith, drop, length, map, subst, sym, take}
 use Rattle.std.proofs.lemmas.List.{length-drop}
 use Rattle.std.specs.Vec.Iter.{into_iter_items}
-use Rattle.bptree_building.specs.Plans.{Frames}
-use Rattle.bptree_building.specs.Rooms.{id_count, joined, pairs_under, parts_of, IsPresentAt}
+use Rattle.bptree_bulk_load.specs.Plans.{Frames}
+use Rattle.bptree_bulk_load.specs.Rooms.{id_count, joined, pairs_under, parts_of, IsPresentAt}
 use Rattle.bptree_bulk.specs.Moving.{poured}
 use Rattle.bptree_bulk.proofs.Dealt.{lower_dealt, lower_pairs, poured_border, upper_dealt, upper_pairs}
 use Rattle.bptree_bulk.proofs.OwnLeaves.{all_read, own_once, own_pairs, own_present, pairs_read}
@@ -18,11 +18,11 @@ take_leaves-requires-clause-present g c =
 pub take_leaves-requires-clause-once : goal.take_leaves-requires-clause-once
 take_leaves-requires-clause-once g c n = subst (λ l. id_count l n ≤ 1) (sym c.deref.ensures.value) (own_once c.recall.ensures.whole c.requires.1.ids n)
 
--- the leaves that were taken out are those under the numbers
+-- the leaves that were taken out are those under the leaf ids
 taken : (g : Over) (c : After-pass g) → parts_of c.take_leaves.new.leaves.items ≡ map (pairs_under (g.S.NodeStore.slots c.args.tree.store)) c.args.split.ids.items
 taken g c = pairs_read g.S.NodeStore.slots (ap (λ t. t.store) c.tree.view_is) c.deref.ensures.value (parts_of c.take_leaves.new.leaves.items) (parts_of c.args.split.leaves.items) [] (ap parts_of c.requires.1.leaves.0) c.take_leaves.ensures.leaves
 
--- those that are left behind the ones of the lower side
+-- the leaves that are left come behind those of the lower side
 passed : (g : Over) (c : After-pass g) → into_iter_items c.pass.new.items ≡ drop c.args.split.cut.from c.take_leaves.new.leaves.items
 passed g c = c.pass.ensures.rest ∙ ap (drop c.args.split.cut.from) c.into_iter-boxes.ensures.rest
 
@@ -68,7 +68,7 @@ returns-clause-lower g c n s =
     (c.pass.ensures.moved ∙ ap (λ b. low ++ take cut.from b) c.into_iter-boxes.ensures.rest) (dealt g at.After-into_iter-items ∙ edge g at.After-pass) c.fill_pieces.ensures.leaves in
     record {
       framed = subst (Frames g.S.K.Ord.cmp g.S.Argument.Argument.is_summary g.S.NodeStore.slots split.lower.frame) (sym are) s.lower;
-      are = ap joined are ∙ (lower_pairs slots ids cut s.cut n s.place ∙ ap (take n) (own_pairs c.recall.ensures.whole s.ids));
+      are = ap joined are ∙ (lower_pairs slots ids cut s.cut n s.index ∙ ap (take n) (own_pairs c.recall.ensures.whole s.ids));
     }
 
 pub returns-clause-upper : goal.returns-clause-upper
@@ -83,5 +83,5 @@ returns-clause-upper g c n s =
     (dealt g at.After-into_iter-items ∙ edge g at.After-pass) c.fill_pieces.ensures.rest c.fill_pieces-2.ensures.leaves (c.pour.ensures.rest ∙ ap (drop (cut.to - cut.from)) (passed g at.After-pass)) (omega (arith, c.len.ensures)) c.pass-2.ensures.moved in
     record {
       framed = subst (Frames g.S.K.Ord.cmp g.S.Argument.Argument.is_summary g.S.NodeStore.slots split.upper.frame) (sym are) s.upper;
-      are = ap joined are ∙ (upper_pairs slots ids cut s.cut n s.place ∙ ap (drop n) (own_pairs c.recall.ensures.whole s.ids));
+      are = ap joined are ∙ (upper_pairs slots ids cut s.cut n s.index ∙ ap (drop n) (own_pairs c.recall.ensures.whole s.ids));
     }

@@ -4,7 +4,7 @@ use Rattle.std.specs.Option.{option_copied}
 use Rattle.std.proofs.lemmas.Result.{IfOk-weaker}
 use Rattle.bptree_bulk.proofs.Segments.{has_first, is_some, piece, piece_len}
 use Rattle.bptree_bulk.specs.Cut.{first_key}
-use Rattle.bptree_bulk.specs.Positions.{place_of}
+use Rattle.bptree_bulk.specs.Positions.{index_of_position}
 use Rattle.bptree_keys.specs.Ranges.{between, part}
 use Rattle.bptree_ranges.proofs.Ranged.{reached}
 use Rattle.bptree_bulk.proofs.tail.plan_between.Goals as goal
@@ -12,8 +12,8 @@ use Rattle.bptree_bulk.proofs.tail.plan_between.Goals as goal
 pub unwrap-first-requires : goal.unwrap-first-requires
 unwrap-first-requires g c =
     let tree = c.args.tree.now in
-    let ends = reached g.S.Argument.Argument.is_summary (g.S.NodeStore.slots tree.store) tree.height tree.root c.recall.ensures.whole.shape c.args.to.leaf c.requires.to.on.stands in
-    let first = has_first tree.contents (place_of g.S.NodeStore.slots tree c.args.from) (omega (arith, ends, c.requires.to.on.within, c.requires.some, ap length c.recall.ensures.whole.contents)) in
+    let ends = reached g.S.Argument.Argument.is_summary (g.S.NodeStore.slots tree.store) tree.height tree.root c.recall.ensures.whole.shape c.args.to.leaf c.requires.to.on.stored in
+    let first = has_first tree.contents (index_of_position g.S.NodeStore.slots tree c.args.from) (omega (arith, ends, c.requires.to.on.within, c.requires.some, ap length c.recall.ensures.whole.contents)) in
     is_some c.key_from.result first.0 (c.key_from.ensures ∙ first.1)
 
 pub returns : goal.returns
@@ -21,9 +21,9 @@ returns g c =
     let tree = c.args.tree.now in
     let all = tree.contents in
     let cmp = g.S.K.Ord.cmp in
-    let from = place_of g.S.NodeStore.slots tree c.args.from in
-    let to = place_of g.S.NodeStore.slots tree c.args.to in
-    let ends = reached g.S.Argument.Argument.is_summary (g.S.NodeStore.slots tree.store) tree.height tree.root c.recall.ensures.whole.shape c.args.to.leaf c.requires.to.on.stands in
+    let from = index_of_position g.S.NodeStore.slots tree c.args.from in
+    let to = index_of_position g.S.NodeStore.slots tree c.args.to in
+    let ends = reached g.S.Argument.Argument.is_summary (g.S.NodeStore.slots tree.store) tree.height tree.root c.recall.ensures.whole.shape c.args.to.leaf c.requires.to.on.stored in
     let some : 0 < to - from = omega (arith, c.requires.some) in
     let sum : from + (to - from) ≡ to = omega (arith, c.requires.some) in
     let within : from + (to - from) ≤ length all = omega (arith, c.requires.some, ends, c.requires.to.on.within, ap length c.recall.ensures.whole.contents) in

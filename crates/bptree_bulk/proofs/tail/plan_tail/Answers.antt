@@ -1,15 +1,15 @@
 use Rattle.std.proofs.Common.{◌≡◌, ◌+◌, ◌-◌, ◌∷◌, ◌++◌, [], ap, arith, drop, length, length-append, subst, sym, take}
 use Rattle.std.proofs.lemmas.List.{length-drop, take-append-drop}
 use Rattle.std.specs.List.{AllByRecursion}
-use Rattle.bptree_building.proofs.Standing.{drop_all}
+use Rattle.bptree_bulk_load.proofs.Standing.{drop_all}
 use Rattle.std.proofs.lemmas.Result.{IfOk-weaker}
 use Rattle.bptree_bulk.specs.Filling.{AreParts, IsEmptyLeaf, IsLaidOut, IsSize}
-use Rattle.bptree_bulk.specs.Positions.{place_of, rest_of}
+use Rattle.bptree_bulk.specs.Positions.{index_of_position, rest_of}
 use Rattle.bptree_bulk.proofs.Tails.{by_size, part_next, sized}
 use Rattle.bptree_keys.specs.Contents.{IsAscending}
 use Rattle.bptree_keys.specs.Ranges.{part}
 use Rattle.bptree_keys.proofs.PieceLemmas.{AllByRecursion-append}
-use Rattle.bptree_shape.proofs.Ordered.{ascending_after}
+use Rattle.bptree_invariant.proofs.Ordered.{ascending_after}
 use Rattle.bptree_bulk.proofs.tail.plan_tail.Given.{Over}
 use Rattle.bptree_bulk.proofs.tail.plan_tail.Goals.{After-parts}
 use Rattle.bptree_bulk.proofs.tail.plan_tail.Goals as goal
@@ -19,8 +19,8 @@ parts-preserved g c =
     let tree = c.args.tree.now in
     let all = tree.contents in
     let inv = c.parts.invariant in
-    let from = place_of g.S.NodeStore.slots tree c.parts.from in
-    let to = place_of g.S.NodeStore.slots tree c.advance.result.0 in
+    let from = index_of_position g.S.NodeStore.slots tree c.parts.from in
+    let to = index_of_position g.S.NodeStore.slots tree c.advance.result.0 in
     let size = c.size_of-size.result in
     let s = sized c.parts.left size c.size_of-size.ensures in
     let left : c.parts.left ≡ length all - from = omega (arith, inv.sum) in
@@ -30,7 +30,7 @@ parts-preserved g c =
     let these = part all from (to - from) in
     record {
       parts = inv.parts ++ these ∷ [];
-      are = part_next (drop (place_of g.S.NodeStore.slots tree c.args.at) all) all inv.parts from to size inv.are (subst (λ n. IsSize n size) left c.size_of-size.ensures) sum (omega (arith, inv.sum, c.parts-test.true));
+      are = part_next (drop (index_of_position g.S.NodeStore.slots tree c.args.at) all) all inv.parts from to size inv.are (subst (λ n. IsSize n size) left c.size_of-size.ensures) sum (omega (arith, inv.sum, c.parts-test.true));
       planned = c.in_ok-plan_between.ensures inv.parts inv.planned;
       settled = c.advance.ensures.settled;
       sum = omega (arith, sum, inv.sum, s.within);
@@ -44,10 +44,10 @@ laid g c =
     let tree = c.args.tree.now in
     let all = tree.contents in
     let inv = c.parts.invariant in
-    let n = place_of g.S.NodeStore.slots tree c.args.at in
+    let n = index_of_position g.S.NodeStore.slots tree c.args.at in
     record {
       parts = inv.parts;
-      are = subst (AreParts (drop n all) inv.parts) (drop_all all (place_of g.S.NodeStore.slots tree c.parts.from) (omega (arith, inv.sum, c.parts-test.false))) inv.are;
+      are = subst (AreParts (drop n all) inv.parts) (drop_all all (index_of_position g.S.NodeStore.slots tree c.parts.from) (omega (arith, inv.sum, c.parts-test.false))) inv.are;
       planned = inv.planned;
       empty = inv.empty;
       as_many = inv.as_many;

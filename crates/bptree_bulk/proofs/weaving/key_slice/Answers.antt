@@ -1,10 +1,10 @@
 use Rattle.std.proofs.Common.{◌≡◌, ◌∙◌, ◌+◌, ◌-◌, ◌++◌, ◌<◌, ap, arith, drop, length, sym, take}
 use Rattle.std.specs.Map.{keys_of}
-use Rattle.bptree_bulk.specs.Positions.{place_of, rest_of}
-use Rattle.bptree_bulk.proofs.Tails.{from_place}
+use Rattle.bptree_bulk.specs.Positions.{index_of_position, rest_of}
+use Rattle.bptree_bulk.proofs.Tails.{from_index}
 use Rattle.bptree_bulk.proofs.Weaves.{keys_here}
-use Rattle.bptree_shape.specs.Leaves.{pairs_of}
-use Rattle.bptree_shape.specs.Shape.{leaf_pairs, pairs_at}
+use Rattle.bptree_invariant.specs.Leaves.{pairs_of}
+use Rattle.bptree_invariant.specs.Shape.{leaf_pairs, pairs_at}
 use Rattle.bptree_bulk.proofs.weaving.key_slice.Goals as goal
 
 pub returns : goal.returns
@@ -14,12 +14,12 @@ returns g c =
     let same : c.tree.inside.store ≡ tree.store = ap (λ t. t.store) c.tree.view_is in
     let at = c.args.at in
     let node = c.get_leaf-leaf.result.now in
-    let stands = c.requires.at.on.stands in
-    let rest = pairs_of slots stands.after in
+    let stored = c.requires.at.on.stored in
+    let rest = pairs_of slots stored.after in
     let leaf : leaf_pairs (slots.leaf at.leaf.0) ≡ node.pairs = ap leaf_pairs (rw same at c.get_leaf-leaf.ensures) in
     let here : rest_of g.S.NodeStore.slots tree at ≡ drop at.slot (node.pairs ++ rest) =
-    ap (drop (place_of g.S.NodeStore.slots tree at)) c.recall.ensures.whole.contents ∙ (from_place g.S.Argument.Argument.is_summary slots tree.height tree.root c.recall.ensures.whole.shape at.leaf stands at.slot ∙ ap (λ l. drop at.slot (l ++ rest)) leaf) in
-    let some : place_of g.S.NodeStore.slots tree at < length (pairs_at slots tree.height tree.root) = omega (arith, c.requires.some, ap length c.recall.ensures.whole.contents) in
+    ap (drop (index_of_position g.S.NodeStore.slots tree at)) c.recall.ensures.whole.contents ∙ (from_index g.S.Argument.Argument.is_summary slots tree.height tree.root c.recall.ensures.whole.shape at.leaf stored at.slot ∙ ap (λ l. drop at.slot (l ++ rest)) leaf) in
+    let some : index_of_position g.S.NodeStore.slots tree at < length (pairs_at slots tree.height tree.root) = omega (arith, c.requires.some, ap length c.recall.ensures.whole.contents) in
     let inside : at.slot < length node.pairs = omega (arith, c.requires.at.pair some, ap length leaf) in
     let one : at.slot + 1 - at.slot ≡ 1 = omega arith in
     ap (λ n. take n (drop at.slot c.keys.result.now)) one ∙ (ap (λ l. take 1 (drop at.slot l)) c.keys.ensures.value ∙ (sym (keys_here node.pairs rest at.slot inside) ∙ ap (λ l. keys_of (take 1 l)) (sym here)))

@@ -1,7 +1,7 @@
 use Rattle.std.proofs.Common.{◌≡◌, ◌+◌, ◌∷◌, [], arith, drop, refl, slice_index_or, subst, sym, take}
 use Rattle.bptree_arguments.specs.Sums.{SumsUpPieces}
-use Rattle.bptree_ascent.specs.Change.{StartsAt}
-use Rattle.bptree_building.proofs.Standing.{drop_on}
+use Rattle.bptree_propagation.specs.Change.{StartsAt}
+use Rattle.bptree_bulk_load.proofs.Standing.{drop_on}
 use Rattle.bptree_bulk.proofs.Summed.{all_summed, first_starts, none_summed, summed_on, take_next}
 use Rattle.bptree_bulk.proofs.Weaves.{goes_joined, woven_length}
 use Rattle.bptree_bulk.specs.Positions.{rest_of}

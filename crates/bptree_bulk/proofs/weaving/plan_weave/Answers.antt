@@ -1,9 +1,9 @@
 use Rattle.std.proofs.Common.{◌≡◌, ◌∙◌, ◌+◌, ◌-◌, ◌∷◌, ◌++◌, ◌≤◌, [], ap, arith, drop, length, length-append, subst, sym, take}
 use Rattle.std.specs.List.{AllByRecursion}
-use Rattle.bptree_building.proofs.Standing.{drop_all}
+use Rattle.bptree_bulk_load.proofs.Standing.{drop_all}
 use Rattle.bptree_bulk.specs.Filling.{AreParts, IsEmptyLeaf, IsLaidOut, IsSize}
 use Rattle.bptree_bulk.specs.Positions.{rest_of}
-use Rattle.bptree_bulk.specs.Split.{HasRoomFor}
+use Rattle.bptree_bulk.specs.Split.{HasLeavesFor}
 use Rattle.bptree_bulk.specs.Weave.{woven, woven_from}
 use Rattle.bptree_bulk.proofs.Tails.{sized}
 use Rattle.bptree_bulk.proofs.Weaves.{some_steps, steps_within, woven_ascends, woven_length}
@@ -13,19 +13,19 @@ use Rattle.bptree_bulk.proofs.weaving.plan_weave.Given.{Over}
 use Rattle.bptree_bulk.proofs.weaving.plan_weave.Goals.{After-deref, After-len-2}
 use Rattle.bptree_bulk.proofs.weaving.plan_weave.Goals as goal
 
--- how far the steps have come
+-- the number of steps so far
 way : (g : Over) (c : After-deref g)
     → IsUnderway g.S.K.Ord.cmp c.in_ok-steps.steps.items c.args.first.now.contents c.args.second.now.contents c.parts.done (rest_of g.S.NodeStore.slots c.args.first.now c.parts.at.first) (rest_of g.S.NodeStore.slots c.args.second.now c.parts.at.second)
 way g c = record { up = c.recall.ensures.ascending; up' = c.recall-2.ensures.ascending; goes = c.parts.invariant.goes; rest = c.parts.invariant.rest }
 
--- how many steps are the next part
+-- the number of steps of the next part
 is_size : (g : Over) (c : After-deref g) → IsSize (length c.in_ok-steps.steps.items - c.parts.done) c.size_of-size.result
 is_size g c = subst (λ k. IsSize k c.size_of-size.result) (omega (arith, c.len-in-parts.ensures)) c.size_of-size.ensures
 
 fits : (g : Over) (c : After-deref g) → c.parts.done + c.size_of-size.result ≤ length c.in_ok-steps.steps.items
 fits g c = omega (arith, (sized (length c.in_ok-steps.steps.items - c.parts.done) c.size_of-size.result (is_size g c)).within, c.parts-test.true, c.len.ensures)
 
--- these steps
+-- the steps of the next part
 own : (g : Over) (c : After-deref g) → take (c.parts.done + c.size_of-size.result - c.parts.done) (drop c.parts.done c.deref.result.now) ≡ take c.size_of-size.result (drop c.parts.done c.in_ok-steps.steps.items)
 own g c =
     let n = c.parts.done in
@@ -104,5 +104,5 @@ returns g c =
     record {
       weaves = weaves;
       fills = fills;
-      room = subst (λ k. HasRoomFor k c.in_ok-filling.filling.pairs) (fills.count ∙ woven_length g.S.K.Ord.cmp steps A B [] [] weaves) c.in_ok-filling.ensures.room;
+      room = subst (λ k. HasLeavesFor k c.in_ok-filling.filling.pairs) (fills.count ∙ woven_length g.S.K.Ord.cmp steps A B [] [] weaves) c.in_ok-filling.ensures.room;
     }

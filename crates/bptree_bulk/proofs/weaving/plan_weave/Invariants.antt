@@ -2,16 +2,16 @@
 use Rattle.std.proofs.Common.{◌≡◌, ◌-◌, ◌≤◌, List, drop, length, take}
 use Rattle.std.specs.Prelude.{vec_capacity}
 use Rattle.std.specs.List.{AllByRecursion}
-use Rattle.bptree_building.specs.Rooms.{ArePlanned}
+use Rattle.bptree_bulk_load.specs.Rooms.{ArePlanned}
 use Rattle.bptree_bulk.specs.Filling.{AreParts, IsEmptyLeaf}
 use Rattle.bptree_bulk.specs.Positions.{rest_of}
-use Rattle.bptree_bulk.specs.Weave.{woven, woven_from, ArePlaces, Goes, Weaves}
+use Rattle.bptree_bulk.specs.Weave.{woven, woven_from, AreIndexes, Goes, Weaves}
 use Rattle.bptree_bulk.proofs.weaving.plan_weave.Given as goal
 
 abbrev pub invariant-parts : goal.invariant-parts
 invariant-parts g l = record {
   within : l.done ≤ length l.steps.items;
-  at : ArePlaces g.S.NodeStore.slots l.fn.first l.fn.second l.at;
+  at : AreIndexes g.S.NodeStore.slots l.fn.first l.fn.second l.at;
   goes : Goes g.S.K.Ord.cmp (take l.done l.steps.items) l.fn.first.contents l.fn.second.contents (rest_of g.S.NodeStore.slots l.fn.first l.at.first) (rest_of g.S.NodeStore.slots l.fn.second l.at.second);
   rest : Weaves g.S.K.Ord.cmp (drop l.done l.steps.items) (rest_of g.S.NodeStore.slots l.fn.first l.at.first) (rest_of g.S.NodeStore.slots l.fn.second l.at.second);
   parts : List (List (g.row.S-K.Denot × g.row.S-V.Denot));

@@ -2,7 +2,7 @@ use Rattle.std.proofs.Common.{arith, get_or, if◌then◌else◌}
 use Rattle.std.proofs.lemmas.List.{get_or_default}
 use Rattle.std.specs.Ordering.{nat_cmp}
 use Rattle.bptree_keys.specs.Contents.{del, has}
-use Rattle.bptree_maps.proofs.ManyLemmas.{after_more, returned_more}
+use Rattle.bptree_map.proofs.ManyLemmas.{after_more, returned_more}
 use Rattle.bptree_c.proofs.batch.del_all.Goals as goal
 
 pub loop-at-preserved : goal.loop-at-preserved

@@ -1,7 +1,7 @@
 use Rattle.std.proofs.Common.{length, take, ◌-◌, ◌≡◌, ◌≤◌}
 use Rattle.std.specs.Ordering.{nat_cmp}
 use Rattle.bptree_c.specs.Batch.{gone_marks}
-use Rattle.bptree_maps.specs.Many.{without_each}
+use Rattle.bptree_map.specs.Many.{without_each}
 use Rattle.bptree_c.proofs.batch.del_all.Given as goal
 
 abbrev pub invariant-loop-at : goal.invariant-loop-at

@@ -2,7 +2,7 @@ use Rattle.std.proofs.Common.{◌≡◌, ◌+◌, ℕ, List, ◌∷◌, ◌++◌
 use Rattle.std.proofs.lemmas.List.{length-set}
 use Rattle.bptree_keys.specs.Ends.{is_back}
 use Rattle.bptree_c.specs.DictPages.{as_record, key_bytes}
-use Rattle.bptree_c.specs.Ends.{turned}
+use Rattle.bptree_c.specs.Ends.{turned_pairs}
 use Rattle.bptree_c.proofs.BackLemmas.{length-turned}
 use Rattle.bptree_c.proofs.PageLemmas.{copied_more, rest_by, here_by, none_by, past_get, written, keys_more}
 use Rattle.bptree_c.proofs.dict_many.copy_pairs.Goals as goal
@@ -10,11 +10,11 @@ use Rattle.bptree_c.proofs.dict_many.copy_pairs.Goals as goal
 pub loop-count-preserved : goal.loop-count-preserved
 loop-count-preserved c =
     let i = c.loop-count.invariant in
-    let all = turned (is_back c.args.end) c.args.left in
+    let all = turned_pairs (is_back c.args.end) c.args.left in
     let n = c.loop-count.count in
     let used = c.loop-count.used in
     let p : List ℕ × ℕ = (c.in-Some.key.now, c.in-Some.value.now) in
-    let rest = turned (is_back c.args.end) c.take_entry.new.left in
+    let rest = turned_pairs (is_back c.args.end) c.take_entry.new.left in
     let here : drop n all ≡ p ∷ rest = sym i.rest ∙ c.in-Some.ensures in
     let more = rest_by all n p rest here in
     let room = length-set c.loop-count.out n (as_record p) in
@@ -38,16 +38,16 @@ loop-count-preserved c =
 pub returns-then-bytes-used : goal.returns-then-bytes-used
 returns-then-bytes-used c =
     let i = c.loop-count.invariant in
-    let all = turned (is_back c.args.end) c.args.left in
+    let all = turned_pairs (is_back c.args.end) c.args.left in
     let n = c.loop-count.count in
     let p : List ℕ × ℕ = (c.in-Some.key.now, c.in-Some.value.now) in
-    let here : drop n all ≡ p ∷ turned (is_back c.args.end) c.take_entry.new.left = sym i.rest ∙ c.in-Some.ensures in
+    let here : drop n all ≡ p ∷ turned_pairs (is_back c.args.end) c.take_entry.new.left = sym i.rest ∙ c.in-Some.ensures in
     record {
       within = i.there;
       keys = rw (← i.used_is) i.keys;
       records = i.so_far;
       full = λ pair at.
-          let e : Some pair ≡ Some p = sym at ∙ here_by all n p (turned (is_back c.args.end) c.take_entry.new.left) here in
+          let e : Some pair ≡ Some p = sym at ∙ here_by all n p (turned_pairs (is_back c.args.end) c.take_entry.new.left) here in
           let same : pair ≡ p = cc in
           omega (arith, ap (λ q. length q.0) same, c.if-bytes-used.true, ap length c.as_slice-length.ensures, i.used_is, i.used_in, i.same_bytes);
     }
@@ -55,7 +55,7 @@ returns-then-bytes-used c =
 pub returns-in-None : goal.returns-in-None
 returns-in-None c =
     let i = c.loop-count.invariant in
-    let all = turned (is_back c.args.end) c.args.left in
+    let all = turned_pairs (is_back c.args.end) c.args.left in
     let n = c.loop-count.count in
     record {
       within = i.there;
@@ -71,5 +71,5 @@ returns c =
       within = i.there;
       keys = rw (← i.used_is) i.keys;
       records = i.so_far;
-      full = λ pair at. absurd (past_get (turned (is_back c.args.end) c.args.left) c.loop-count.count pair (omega (arith, c.requires, length-turned (is_back c.args.end) c.args.left, c.loop-count-test.false, i.same_room)) at);
+      full = λ pair at. absurd (past_get (turned_pairs (is_back c.args.end) c.args.left) c.loop-count.count pair (omega (arith, c.requires, length-turned (is_back c.args.end) c.args.left, c.loop-count-test.false, i.same_room)) at);
     }

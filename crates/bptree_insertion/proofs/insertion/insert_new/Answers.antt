@@ -1,9 +1,9 @@
 use Rattle.std.proofs.Common.{arith, None, refl, subst}
-use Rattle.bptree_shape.proofs.Low.{low_tree}
-use Rattle.bptree_shape.specs.Shape.{root_least}
-use Rattle.bptree_shape.proofs.Walk.{tree_ascends}
+use Rattle.bptree_invariant.proofs.Low.{low_tree}
+use Rattle.bptree_invariant.specs.Shape.{root_least}
+use Rattle.bptree_invariant.proofs.Walk.{tree_ascends}
 use Rattle.bptree_insertion.specs.Puts.{IsPlacedUpTo}
-use Rattle.bptree_insertion.proofs.Upserted.{one_more, placed_at, told_for_due}
+use Rattle.bptree_insertion.proofs.Upserted.{one_more, placed_at, reported_for_due}
 use Rattle.bptree_insertion.proofs.insertion.insert_new.Goals as goal
 
 pub put_new-requires : goal.put_new-requires
@@ -12,7 +12,7 @@ put_new-requires g c =
     let due = rw (← c.tree.view_is) at c.requires.due in
     record {
       due = (due.0, due.1);
-      told = told_for_due g.S.K.Ord.cmp g.S.Argument.Argument.is_summary (g.S.NodeStore.slots tree.store) tree.height tree.root c.args.path.now c.args.at.leaf c.args.at.slot c.args.k due.0 due.1 due.2 tree.summary c.tree.invariant.2;
+      reported = reported_for_due g.S.K.Ord.cmp g.S.Argument.Argument.is_summary (g.S.NodeStore.slots tree.store) tree.height tree.root c.args.path.now c.args.at.leaf c.args.at.slot c.args.k due.0 due.1 due.2 tree.summary c.tree.invariant.2;
     }
 
 pub top_of-root-requires : goal.top_of-root-requires
@@ -55,4 +55,4 @@ returns-clause-whole g c =
     let due = rw (← c.tree.view_is) at c.requires.due in
     let reached = subst (λ n. IsPlacedUpTo cmp sum old new n tree.root c.args.k c.args.v c.in_ok-top.top c.in_ok-top.summary) due.2 (c.in_ok-top.ensures.placed due.0 due.1) in
     let p = placed_at cmp sum old new tree.height tree.root c.args.k c.args.v c.in_ok-top.top c.in_ok-top.summary c.top_of-root.result c.top_of-root.ensures reached in
-    record { shape = p.shape; contents = refl; summary = p.told }
+    record { shape = p.shape; contents = refl; summary = p.reported }

@@ -17,34 +17,34 @@ undo_split_at-requires-clause-slot g c =
     omega (arith, full, slot_within g.met.S.K.Ord.total g.S.Argument.Argument.is_summary (g.S.NodeStore.slots c.args.store.now) c.args.path.now c.args.at.leaf c.args.at.slot c.args.pair.0 c.requires.due.0 c.args.pair.1)
 
 pub ascend_split-requires : goal.ascend_split-requires
-ascend_split-requires g c = record { climbs = (climbs_divided g.met.S.K.Ord.total g.S.Argument.Argument.is_summary (g.S.NodeStore.slots c.args.store.now) c.args.path.now c.args.at.leaf c.args.at.slot c.args.pair.0 c.requires.due.0 c.args.pair.1 (g.S.NodeStore.slots c.split_at.new.store) c.in_ok-division.division c.in_ok-division.fresh c.in_ok-division.ensures.divides c.in_ok-division.ensures.left c.in_ok-division.ensures.right, c.requires.told c.requires.due.0) }
+ascend_split-requires g c = record { climbs = (climbs_divided g.met.S.K.Ord.total g.S.Argument.Argument.is_summary (g.S.NodeStore.slots c.args.store.now) c.args.path.now c.args.at.leaf c.args.at.slot c.args.pair.0 c.requires.due.0 c.args.pair.1 (g.S.NodeStore.slots c.split_at.new.store) c.in_ok-division.division c.in_ok-division.fresh c.in_ok-division.ensures.divides c.in_ok-division.ensures.left c.in_ok-division.ensures.right, c.requires.reported c.requires.due.0) }
 
 pub relink_next-requires : goal.relink_next-requires
 relink_next-requires g c = record {
   next = next_risen g.met.S.K.Ord.total g.S.Argument.Argument.is_summary (g.S.NodeStore.slots c.args.store.now) c.args.path.now c.args.at.leaf c.args.at.slot c.args.pair.0 c.requires.due.0 c.args.pair.1 (g.S.NodeStore.slots c.split_at.new.store) c.in_ok-division.division c.in_ok-division.fresh c.in_ok-division.ensures.divides c.in_ok-division.ensures.left c.in_ok-division.ensures.right
-      (g.S.NodeStore.slots c.ascend_split.new.store) c.in-Ok.top.0 c.in-Ok.top.1 (c.in-Ok.ensures.rises (climbs_divided g.met.S.K.Ord.total g.S.Argument.Argument.is_summary (g.S.NodeStore.slots c.args.store.now) c.args.path.now c.args.at.leaf c.args.at.slot c.args.pair.0 c.requires.due.0 c.args.pair.1 (g.S.NodeStore.slots c.split_at.new.store) c.in_ok-division.division c.in_ok-division.fresh c.in_ok-division.ensures.divides c.in_ok-division.ensures.left c.in_ok-division.ensures.right, c.requires.told c.requires.due.0) c.requires.due.1) c.next-next.result c.get_leaf-leaf.result.now c.get_leaf-leaf.ensures c.next-next.ensures;
+      (g.S.NodeStore.slots c.ascend_split.new.store) c.in-Ok.top.0 c.in-Ok.top.1 (c.in-Ok.ensures.rises (climbs_divided g.met.S.K.Ord.total g.S.Argument.Argument.is_summary (g.S.NodeStore.slots c.args.store.now) c.args.path.now c.args.at.leaf c.args.at.slot c.args.pair.0 c.requires.due.0 c.args.pair.1 (g.S.NodeStore.slots c.split_at.new.store) c.in_ok-division.division c.in_ok-division.fresh c.in_ok-division.ensures.divides c.in_ok-division.ensures.left c.in_ok-division.ensures.right, c.requires.reported c.requires.due.0) c.requires.due.1) c.next-next.result c.get_leaf-leaf.result.now c.get_leaf-leaf.ensures c.next-next.ensures;
 }
 
 pub returns-in-Ok-clause-placed : goal.returns-in-Ok-clause-placed
 returns-in-Ok-clause-placed g c given same =
     subst (λ x. IsPlacedUpTo g.S.K.Ord.cmp g.S.Argument.Argument.is_summary (g.S.NodeStore.slots c.args.store.now) (g.S.NodeStore.slots c.relink_next.new.store) given.top x c.args.pair.0 c.args.pair.1 c.in-Ok.top.0 c.in-Ok.top.1) same
     (placed_divided g.met.S.K.Ord.total g.S.Argument.Argument.is_summary (g.S.NodeStore.slots c.args.store.now) c.args.path.now c.args.at.leaf c.args.at.slot c.args.pair.0 given c.args.pair.1 (g.S.NodeStore.slots c.split_at.new.store) c.in_ok-division.division c.in_ok-division.fresh c.in_ok-division.ensures.divides c.in_ok-division.ensures.left c.in_ok-division.ensures.right
-    (g.S.NodeStore.slots c.ascend_split.new.store) c.in-Ok.top.0 c.in-Ok.top.1 (c.in-Ok.ensures.rises (climbs_divided g.met.S.K.Ord.total g.S.Argument.Argument.is_summary (g.S.NodeStore.slots c.args.store.now) c.args.path.now c.args.at.leaf c.args.at.slot c.args.pair.0 given c.args.pair.1 (g.S.NodeStore.slots c.split_at.new.store) c.in_ok-division.division c.in_ok-division.fresh c.in_ok-division.ensures.divides c.in_ok-division.ensures.left c.in_ok-division.ensures.right, c.requires.told given) same) c.next-next.result c.get_leaf-leaf.result.now c.get_leaf-leaf.ensures c.next-next.ensures (g.S.NodeStore.slots c.relink_next.new.store) c.relink_next.ensures)
+    (g.S.NodeStore.slots c.ascend_split.new.store) c.in-Ok.top.0 c.in-Ok.top.1 (c.in-Ok.ensures.rises (climbs_divided g.met.S.K.Ord.total g.S.Argument.Argument.is_summary (g.S.NodeStore.slots c.args.store.now) c.args.path.now c.args.at.leaf c.args.at.slot c.args.pair.0 given c.args.pair.1 (g.S.NodeStore.slots c.split_at.new.store) c.in_ok-division.division c.in_ok-division.fresh c.in_ok-division.ensures.divides c.in_ok-division.ensures.left c.in_ok-division.ensures.right, c.requires.reported given) same) c.next-next.result c.get_leaf-leaf.result.now c.get_leaf-leaf.ensures c.next-next.ensures (g.S.NodeStore.slots c.relink_next.new.store) c.relink_next.ensures)
 
 pub undo_split_at-requires-clause-halves : goal.undo_split_at-requires-clause-halves
 undo_split_at-requires-clause-halves g c =
     let full = full_of _ _ _ c.get_leaf-leaf.ensures c.is_full.ensures.value c.if-not-is_full.false in
-    rw c.in-Err.ensures.refused (halves_divided g.met.S.K.Ord.total g.S.Argument.Argument.is_summary (g.S.NodeStore.slots c.args.store.now) c.args.path.now c.args.at.leaf c.args.at.slot c.args.pair.0 c.requires.due.0 c.args.pair.1 (g.S.NodeStore.slots c.split_at.new.store) c.in_ok-division.division c.in_ok-division.fresh c.in_ok-division.ensures.divides full).0
+    rw c.in-Err.ensures.unchanged (halves_divided g.met.S.K.Ord.total g.S.Argument.Argument.is_summary (g.S.NodeStore.slots c.args.store.now) c.args.path.now c.args.at.leaf c.args.at.slot c.args.pair.0 c.requires.due.0 c.args.pair.1 (g.S.NodeStore.slots c.split_at.new.store) c.in_ok-division.division c.in_ok-division.fresh c.in_ok-division.ensures.divides full).0
 
 pub undo_split_at-requires-clause-apart : goal.undo_split_at-requires-clause-apart
 undo_split_at-requires-clause-apart g c =
     let full = full_of _ _ _ c.get_leaf-leaf.ensures c.is_full.ensures.value c.if-not-is_full.false in
     (halves_divided g.met.S.K.Ord.total g.S.Argument.Argument.is_summary (g.S.NodeStore.slots c.args.store.now) c.args.path.now c.args.at.leaf c.args.at.slot c.args.pair.0 c.requires.due.0 c.args.pair.1 (g.S.NodeStore.slots c.split_at.new.store) c.in_ok-division.division c.in_ok-division.fresh c.in_ok-division.ensures.divides full).1
 
-pub returns-clause-refused : goal.returns-clause-refused
-returns-clause-refused g c = (when_divided g.met.S.K.Ord.total g.S.Argument.Argument.is_summary (g.S.NodeStore.slots c.args.store.now) c.args.path.now c.args.at.leaf c.args.at.slot c.args.pair.0 c.requires.due.0 c.args.pair.1 (g.S.NodeStore.slots c.split_at.new.store) c.in_ok-division.division c.in_ok-division.fresh c.in_ok-division.ensures.divides
-    (λ was here within divides. c.undo_split_at.ensures.undoes (g.S.NodeStore.slots c.args.store.now) was c.args.pair c.in_ok-division.division here within (rw c.in-Err.ensures.refused divides))).0
+pub returns-clause-unchanged : goal.returns-clause-unchanged
+returns-clause-unchanged g c = (when_divided g.met.S.K.Ord.total g.S.Argument.Argument.is_summary (g.S.NodeStore.slots c.args.store.now) c.args.path.now c.args.at.leaf c.args.at.slot c.args.pair.0 c.requires.due.0 c.args.pair.1 (g.S.NodeStore.slots c.split_at.new.store) c.in_ok-division.division c.in_ok-division.fresh c.in_ok-division.ensures.divides
+    (λ was here within divides. c.undo_split_at.ensures.undoes (g.S.NodeStore.slots c.args.store.now) was c.args.pair c.in_ok-division.division here within (rw c.in-Err.ensures.unchanged divides))).0
 
-pub returns-clause-handed_back : goal.returns-clause-handed_back
-returns-clause-handed_back g c = (when_divided g.met.S.K.Ord.total g.S.Argument.Argument.is_summary (g.S.NodeStore.slots c.args.store.now) c.args.path.now c.args.at.leaf c.args.at.slot c.args.pair.0 c.requires.due.0 c.args.pair.1 (g.S.NodeStore.slots c.split_at.new.store) c.in_ok-division.division c.in_ok-division.fresh c.in_ok-division.ensures.divides
-    (λ was here within divides. c.undo_split_at.ensures.undoes (g.S.NodeStore.slots c.args.store.now) was c.args.pair c.in_ok-division.division here within (rw c.in-Err.ensures.refused divides))).1
+pub returns-clause-returned : goal.returns-clause-returned
+returns-clause-returned g c = (when_divided g.met.S.K.Ord.total g.S.Argument.Argument.is_summary (g.S.NodeStore.slots c.args.store.now) c.args.path.now c.args.at.leaf c.args.at.slot c.args.pair.0 c.requires.due.0 c.args.pair.1 (g.S.NodeStore.slots c.split_at.new.store) c.in_ok-division.division c.in_ok-division.fresh c.in_ok-division.ensures.divides
+    (λ was here within divides. c.undo_split_at.ensures.undoes (g.S.NodeStore.slots c.args.store.now) was c.args.pair c.in_ok-division.division here within (rw c.in-Err.ensures.unchanged divides))).1

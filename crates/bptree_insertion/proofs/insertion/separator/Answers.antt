@@ -1,4 +1,4 @@
-use Rattle.bptree_ascent.proofs.LeafPlaces.{starts_old, if_ok}
+use Rattle.bptree_propagation.proofs.LeafIndexes.{starts_old, if_ok}
 use Rattle.bptree_insertion.proofs.insertion.separator.Goals as goal
 
 pub returns : goal.returns

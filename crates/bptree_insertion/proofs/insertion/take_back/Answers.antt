@@ -1,4 +1,4 @@
-use Rattle.bptree_ascent.proofs.Undone.{leaf_taken_back}
+use Rattle.bptree_propagation.proofs.Undone.{leaf_taken_back}
 use Rattle.bptree_insertion.proofs.insertion.take_back.Goals as goal
 
 pub returns : goal.returns
@@ -7,7 +7,7 @@ returns g c = record {
       let slots = g.S.NodeStore.slots in
       let taken = c.take_leaf-leaf in
       let gone = c.delete_at-pair in
-      let lent = c.deref_mut.ensures.value in
+      let borrowed = c.deref_mut.ensures.value in
       leaf_taken_back was (slots c.args.store.now) (slots taken.new.self) (slots c.assign_leaf.new.self) c.args.id c.args.slot node taken.result.value gone.new.self pair gone.result here within adds
-      taken.ensures.value taken.ensures.updates (rw lent at gone.ensures.pair) (rw lent at gone.ensures.after) c.assign_leaf.ensures;
+      taken.ensures.value taken.ensures.updates (rw borrowed at gone.ensures.pair) (rw borrowed at gone.ensures.after) c.assign_leaf.ensures;
 }

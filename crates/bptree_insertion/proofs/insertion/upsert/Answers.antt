@@ -1,6 +1,6 @@
 use Rattle.std.proofs.Common.{ap, arith, length, refl, sym}
-use Rattle.bptree_ascent.proofs.Lent.{none_if_absent}
-use Rattle.bptree_shape.proofs.Low.{low_tree}
+use Rattle.bptree_propagation.proofs.Borrowed.{none_if_absent}
+use Rattle.bptree_invariant.proofs.Low.{low_tree}
 use Rattle.bptree_insertion.proofs.Upserted.{absent, as_many, due, replaced}
 use Rattle.bptree_insertion.proofs.insertion.upsert.Goals as goal
 
@@ -43,21 +43,21 @@ pub insert_new-requires-clause-due : goal.insert_new-requires-clause-due
 insert_new-requires-clause-due g c =
     let tree = c.tree.inside in
     rw (← c.tree.view_is)
-    (due g.met.S.K.Ord.total g.S.Argument.Argument.is_summary (g.S.NodeStore.slots tree.store) tree.height tree.root c.args.k c.find_path-leaf.result c.get_leaf.result.now c.tree.invariant.0 c.find_path-leaf.ensures.leaf c.get_leaf.ensures c.in-Err.slot c.in-Err.ensures.place (rw (← c.tree.view_is) at c.requires)
+    (due g.met.S.K.Ord.total g.S.Argument.Argument.is_summary (g.S.NodeStore.slots tree.store) tree.height tree.root c.args.k c.find_path-leaf.result c.get_leaf.result.now c.tree.invariant.0 c.find_path-leaf.ensures.leaf c.get_leaf.ensures c.in-Err.slot c.in-Err.ensures.index (rw (← c.tree.view_is) at c.requires)
     c.find_path-leaf.new.path (c.find_path-leaf.ensures.way tree.height tree.root (rw c.clear.ensures (refl, refl))))
 
 pub insert_new-requires-clause-absent : goal.insert_new-requires-clause-absent
 insert_new-requires-clause-absent g c =
     let tree = c.tree.inside in
-    rw (← c.tree.view_is) (absent g.met.S.K.Ord.total g.S.Argument.Argument.is_summary (g.S.NodeStore.slots tree.store) tree.height tree.root c.args.k c.find_path-leaf.result c.get_leaf.result.now c.tree.invariant.0 c.find_path-leaf.ensures.leaf c.get_leaf.ensures c.in-Err.slot c.in-Err.ensures.place)
+    rw (← c.tree.view_is) (absent g.met.S.K.Ord.total g.S.Argument.Argument.is_summary (g.S.NodeStore.slots tree.store) tree.height tree.root c.args.k c.find_path-leaf.result c.get_leaf.result.now c.tree.invariant.0 c.find_path-leaf.ensures.leaf c.get_leaf.ensures c.in-Err.slot c.in-Err.ensures.index)
 
 pub returns-in-Err-insert_new-clause-absent : goal.returns-in-Err-insert_new-clause-absent
 returns-in-Err-insert_new-clause-absent g c =
     let tree = c.tree.inside in
-    rw (← c.tree.view_is) (absent g.met.S.K.Ord.total g.S.Argument.Argument.is_summary (g.S.NodeStore.slots tree.store) tree.height tree.root c.args.k c.find_path-leaf.result c.get_leaf.result.now c.tree.invariant.0 c.find_path-leaf.ensures.leaf c.get_leaf.ensures c.in-Err.slot c.in-Err.ensures.place)
+    rw (← c.tree.view_is) (absent g.met.S.K.Ord.total g.S.Argument.Argument.is_summary (g.S.NodeStore.slots tree.store) tree.height tree.root c.args.k c.find_path-leaf.result c.get_leaf.result.now c.tree.invariant.0 c.find_path-leaf.ensures.leaf c.get_leaf.ensures c.in-Err.slot c.in-Err.ensures.index)
 
 pub returns-in-Ok-insert_new-clause-put : goal.returns-in-Ok-insert_new-clause-put
 returns-in-Ok-insert_new-clause-put g c =
     let tree = c.tree.inside in
-    let none = absent g.met.S.K.Ord.total g.S.Argument.Argument.is_summary (g.S.NodeStore.slots tree.store) tree.height tree.root c.args.k c.find_path-leaf.result c.get_leaf.result.now c.tree.invariant.0 c.find_path-leaf.ensures.leaf c.get_leaf.ensures c.in-Err.slot c.in-Err.ensures.place in
+    let none = absent g.met.S.K.Ord.total g.S.Argument.Argument.is_summary (g.S.NodeStore.slots tree.store) tree.height tree.root c.args.k c.find_path-leaf.result c.get_leaf.result.now c.tree.invariant.0 c.find_path-leaf.ensures.leaf c.get_leaf.ensures c.in-Err.slot c.in-Err.ensures.index in
     (rw (← c.tree.view_is) (sym (none_if_absent g.S.K.Ord.cmp _ c.args.k none)), c.in-Ok-insert_new.ensures.put)

@@ -1,7 +1,7 @@
 use Rattle.std.proofs.Common.{◌+◌, ◌-◌, ◌*◌, ◌/◌, refl, arith}
 use Rattle.bptree_keys.proofs.Steps.{half_taken}
 use Rattle.bptree_keys.proofs.Counting.{count_then, count_end}
-use Rattle.bptree_keys.proofs.Locating.{answers_rise}
+use Rattle.bptree_keys.proofs.Locating.{results_rise}
 use Rattle.bptree_keys.proofs.compares.count_among.Goals as goal
 
 pub halves-preserved : goal.halves-preserved
@@ -18,4 +18,4 @@ halves-preserved g c =
 
 pub returns-clause-ascending : goal.returns-clause-ascending
 returns-clause-ascending g c = λ s.
-    count_end (λ (y : g.row.K.Denot). g.K.Ord.cmp y c.args.key.now) c.args.keys.now c.halves.first c.halves.left (omega arith) c.halves.invariant.positive (omega (arith, c.halves.invariant.within)) c.halves.invariant.among (answers_rise g.K.Ord.cmp g.met.K.Ord.total c.args.keys.now c.args.key.now s)
+    count_end (λ (y : g.row.K.Denot). g.K.Ord.cmp y c.args.key.now) c.args.keys.now c.halves.first c.halves.left (omega arith) c.halves.invariant.positive (omega (arith, c.halves.invariant.within)) c.halves.invariant.among (results_rise g.K.Ord.cmp g.met.K.Ord.total c.args.keys.now c.args.key.now s)

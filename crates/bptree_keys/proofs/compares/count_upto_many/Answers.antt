@@ -1,12 +1,12 @@
 use Rattle.std.proofs.Common.{◌+◌, ◌-◌, ap, sym, length, arith, ◌∙◌}
 use Rattle.std.specs.Ordering.{is_le}
 use Rattle.bptree_keys.proofs.Counting.{count_all, count_ends}
-use Rattle.bptree_keys.proofs.Locating.{answers_rise}
+use Rattle.bptree_keys.proofs.Locating.{results_rise}
 use Rattle.bptree_keys.proofs.compares.count_upto_many.Goals as goal
 
 pub returns-then-is_le-clause-ascending : goal.returns-then-is_le-clause-ascending
 returns-then-is_le-clause-ascending g c = λ s.
-    count_all (λ (y : g.row.K.Denot). g.K.Ord.cmp y c.args.key.now) c.args.keys.now c.index-keys-count.result (omega (arith, c.requires)) c.index-keys-count.is (ap is_le (sym c.compare.ensures.order) ∙ sym c.if-is_le.ensures) (answers_rise g.K.Ord.cmp g.met.K.Ord.total c.args.keys.now c.args.key.now s)
+    count_all (λ (y : g.row.K.Denot). g.K.Ord.cmp y c.args.key.now) c.args.keys.now c.index-keys-count.result (omega (arith, c.requires)) c.index-keys-count.is (ap is_le (sym c.compare.ensures.order) ∙ sym c.if-is_le.ensures) (results_rise g.K.Ord.cmp g.met.K.Ord.total c.args.keys.now c.args.key.now s)
 
 pub count_later-requires-clause-among : goal.count_later-requires-clause-among
 count_later-requires-clause-among g c =

@@ -23,7 +23,7 @@ slots-preserved g c =
     let v = c.index-values-slot.result in
     let w = c.f.new.arg3 in
     let there = pair_at keys c.slots.values c.slots.slot k v same (omega (arith, c.slots-test.true, c.requires.within.1)) c.index-keys-slot.is c.index-values-slot.is in
-    let call : ChangesValue g.F.FnMut c.slots.f (k, v) c.f.new.self (k, w) = record { key = _; value = _; lent = _; shows = (refl, sym c.index-values-slot.is); called = c.f.ensures; leaves = refl } in
+    let call : ChangesValue g.F.FnMut c.slots.f (k, v) c.f.new.self (k, w) = record { key = _; value = _; borrowed = _; shows = (refl, sym c.index-values-slot.is); called = c.f.ensures; leaves = refl } in
     record {
       callable = mut_next g.F.FnMut _ _ _ _ _ c.f.ensures refl at.callable;
       changed = rw (set_value_pairs keys c.slots.values c.slots.slot w)

@@ -1,7 +1,7 @@
 use Rattle.std.proofs.Common.{ap, sym}
 use Rattle.std.specs.Option.{option_copied}
-use Rattle.bptree_shape.specs.Shape.{pairs_at}
-use Rattle.bptree_shape.proofs.Between.{none_short}
+use Rattle.bptree_invariant.specs.Shape.{pairs_at}
+use Rattle.bptree_invariant.proofs.Between.{none_short}
 use Rattle.bptree_ranges.proofs.counting.count_before.Goals as goal
 
 pub returns-in-None : goal.returns-in-None

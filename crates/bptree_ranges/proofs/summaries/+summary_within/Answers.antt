@@ -1,5 +1,5 @@
 use Rattle.std.proofs.Common.{arith, refl, Some, ◌+◌}
-use Rattle.bptree_descents.proofs.Child.{child_at, below, one_down, tree_below}
+use Rattle.bptree_search.proofs.Child.{child_at, below, one_down, tree_below}
 use Rattle.bptree_ranges.proofs.Sums.{leaf_node, within_node, one_node}
 use Rattle.bptree_ranges.proofs.summaries.+summary_within.Goals as goal
 

@@ -1,6 +1,6 @@
 use Rattle.std.proofs.Common.{ap, sym, ◌∙◌}
 use Rattle.std.specs.Option.{option_copied}
-use Rattle.bptree_shape.proofs.Between.{all_below}
+use Rattle.bptree_invariant.proofs.Between.{all_below}
 use Rattle.bptree_ranges.proofs.summaries.end_in.Goals as goal
 
 pub returns-in-None-clause-below : goal.returns-in-None-clause-below

@@ -1,7 +1,7 @@
 use Rattle.std.proofs.Common.{ap, sym, ◌∙◌}
 use Rattle.std.specs.Ordering.{is_lt}
 use Rattle.bptree_ranges.proofs.Sums.{nothing_between, not_less}
-use Rattle.bptree_shape.specs.Shape.{pairs_at}
+use Rattle.bptree_invariant.specs.Shape.{pairs_at}
 use Rattle.bptree_ranges.proofs.summaries.some_between.Goals as goal
 
 pub returns-in-Equal : goal.returns-in-Equal

@@ -1,4 +1,4 @@
-use Rattle.bptree_descents.proofs.Summed.{known_subtree}
+use Rattle.bptree_search.proofs.Summed.{known_subtree}
 use Rattle.bptree_ranges.proofs.summaries.summary_between.Goals as goal
 
 pub some_between-requires : goal.some_between-requires

@@ -1,5 +1,5 @@
 use Rattle.std.proofs.Common.{refl, length, None}
-use Rattle.bptree_descents.proofs.Child.{node_at}
+use Rattle.bptree_search.proofs.Child.{node_at}
 use Rattle.bptree_ranges.proofs.Sums.{all_node, leaf_node}
 use Rattle.bptree_ranges.proofs.summaries.summary_of_all.Goals as goal
 

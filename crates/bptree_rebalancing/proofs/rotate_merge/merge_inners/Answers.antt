@@ -9,22 +9,22 @@ returns-in-Ok-clause-merges g c =
       child = c.remove_at-separator.result.1;
       separator = c.remove_at-separator.result.0;
       long = let fits = c.len-kept.ensures.fits in (omega (arith, c.requires.left, fits.children), fits.arguments);
-      entry = entry_out c.args.node.now c.remove_at-separator.new.self c.args.slot c.remove_at-separator.result.0 c.remove_at-separator.result.1 c.remove_at-separator.result.2 c.requires.place c.remove_at-separator.ensures.key c.remove_at-separator.ensures.child c.remove_at-separator.ensures.argument c.remove_at-separator.ensures.after;
-      nodes = record { left_is = c.take_over.ensures.left; right_is = c.take_over.ensures.right };
+      entry = entry_out c.args.node.now c.remove_at-separator.new.self c.args.slot c.remove_at-separator.result.0 c.remove_at-separator.result.1 c.remove_at-separator.result.2 c.requires.index c.remove_at-separator.ensures.key c.remove_at-separator.ensures.child c.remove_at-separator.ensures.argument c.remove_at-separator.ensures.after;
+      nodes = record { left_is = c.append_node.ensures.left; right_is = c.append_node.ensures.right };
       merges = c.in-Ok.ensures.merges;
     }
 
 pub returns-in-Err-clause-node : goal.returns-in-Err-clause-node
 returns-in-Err-clause-node g c =
-    let given = c.hand_over-separator in
+    let given = c.move_tail_to-separator in
     let fits = c.len-kept.ensures.fits in
-    let same = inners_unmerged c.args.left.now c.args.right.now c.take_over.new.self c.take_over.new.right given.new.self given.new.right c.remove_at-separator.result.0 given.result c.len-kept.result (record { left_is = c.take_over.ensures.left; right_is = c.take_over.ensures.right }) c.len-kept.ensures.value
+    let same = inners_unmerged c.args.left.now c.args.right.now c.append_node.new.self c.append_node.new.right given.new.self given.new.right c.remove_at-separator.result.0 given.result c.len-kept.result (record { left_is = c.append_node.ensures.left; right_is = c.append_node.ensures.right }) c.len-kept.ensures.value
     (omega (arith, c.requires.left, fits.children, c.len-kept.ensures.value)) (omega (arith, c.requires.left, fits.children, fits.arguments, c.len-kept.ensures.value)) given.ensures.left given.ensures.promoted given.ensures.right in
-    entry_returned c.args.node.now c.remove_at-separator.new.self c.ask_inner.new.node c.insert_at.new.self c.args.slot c.remove_at-separator.result.0 c.remove_at-separator.result.1 c.remove_at-separator.result.2 c.requires.place c.remove_at-separator.ensures.key c.remove_at-separator.ensures.child c.remove_at-separator.ensures.argument c.remove_at-separator.ensures.after c.in-Err.ensures.refused (rw same.2 at c.insert_at.ensures)
+    entry_returned c.args.node.now c.remove_at-separator.new.self c.ask_inner.new.node c.insert_at.new.self c.args.slot c.remove_at-separator.result.0 c.remove_at-separator.result.1 c.remove_at-separator.result.2 c.requires.index c.remove_at-separator.ensures.key c.remove_at-separator.ensures.child c.remove_at-separator.ensures.argument c.remove_at-separator.ensures.after c.in-Err.ensures.unchanged (rw same.2 at c.insert_at.ensures)
 
 pub returns-in-Err-clause-right : goal.returns-in-Err-clause-right
 returns-in-Err-clause-right g c =
-    let given = c.hand_over-separator in
+    let given = c.move_tail_to-separator in
     let fits = c.len-kept.ensures.fits in
-    (inners_unmerged c.args.left.now c.args.right.now c.take_over.new.self c.take_over.new.right given.new.self given.new.right c.remove_at-separator.result.0 given.result c.len-kept.result (record { left_is = c.take_over.ensures.left; right_is = c.take_over.ensures.right }) c.len-kept.ensures.value
+    (inners_unmerged c.args.left.now c.args.right.now c.append_node.new.self c.append_node.new.right given.new.self given.new.right c.remove_at-separator.result.0 given.result c.len-kept.result (record { left_is = c.append_node.ensures.left; right_is = c.append_node.ensures.right }) c.len-kept.ensures.value
     (omega (arith, c.requires.left, fits.children, c.len-kept.ensures.value)) (omega (arith, c.requires.left, fits.children, fits.arguments, c.len-kept.ensures.value)) given.ensures.left given.ensures.promoted given.ensures.right).1

@@ -6,11 +6,11 @@ returns-in-Ok-clause-merges g c =
     record {
       bare = c.remove_at-separator.new.self;
       child = c.remove_at-separator.result.1;
-      entry = entry_out c.args.node.now c.remove_at-separator.new.self c.args.slot c.remove_at-separator.result.0 c.remove_at-separator.result.1 c.remove_at-separator.result.2 c.requires.place c.remove_at-separator.ensures.key c.remove_at-separator.ensures.child c.remove_at-separator.ensures.argument c.remove_at-separator.ensures.after;
-      leaves = record { left_is = c.take_over.ensures.left; right_is = c.take_over.ensures.right };
+      entry = entry_out c.args.node.now c.remove_at-separator.new.self c.args.slot c.remove_at-separator.result.0 c.remove_at-separator.result.1 c.remove_at-separator.result.2 c.requires.index c.remove_at-separator.ensures.key c.remove_at-separator.ensures.child c.remove_at-separator.ensures.argument c.remove_at-separator.ensures.after;
+      leaves = record { left_is = c.append_node.ensures.left; right_is = c.append_node.ensures.right };
       merges = c.in-Ok.ensures.merges;
     }
 
 pub returns-in-Err-clause-node : goal.returns-in-Err-clause-node
 returns-in-Err-clause-node g c =
-    entry_returned c.args.node.now c.remove_at-separator.new.self c.ask_leaf.new.node c.insert_at.new.self c.args.slot c.remove_at-separator.result.0 c.remove_at-separator.result.1 c.remove_at-separator.result.2 c.requires.place c.remove_at-separator.ensures.key c.remove_at-separator.ensures.child c.remove_at-separator.ensures.argument c.remove_at-separator.ensures.after c.in-Err.ensures.refused c.insert_at.ensures
+    entry_returned c.args.node.now c.remove_at-separator.new.self c.resummarize_leaf.new.node c.insert_at.new.self c.args.slot c.remove_at-separator.result.0 c.remove_at-separator.result.1 c.remove_at-separator.result.2 c.requires.index c.remove_at-separator.ensures.key c.remove_at-separator.ensures.child c.remove_at-separator.ensures.argument c.remove_at-separator.ensures.after c.in-Err.ensures.unchanged c.insert_at.ensures

@@ -1,9 +1,9 @@
 use Rattle.bptree_rebalancing.proofs.Transfers.{entry_out, entry_returned, child_moved_back}
 use Rattle.bptree_rebalancing.proofs.rotate_merge.rotate_inners.Goals as goal
 
-pub ask_inners-requires-clause-place : goal.ask_inners-requires-clause-place
-ask_inners-requires-clause-place g c =
-    (entry_out c.args.node.now c.remove_at-separator.new.self c.args.slot c.remove_at-separator.result.0 c.remove_at-separator.result.1 c.remove_at-separator.result.2 c.requires.place c.remove_at-separator.ensures.key c.remove_at-separator.ensures.child c.remove_at-separator.ensures.argument c.remove_at-separator.ensures.after).place
+pub resummarize_inners-requires-clause-index : goal.resummarize_inners-requires-clause-index
+resummarize_inners-requires-clause-index g c =
+    (entry_out c.args.node.now c.remove_at-separator.new.self c.args.slot c.remove_at-separator.result.0 c.remove_at-separator.result.1 c.remove_at-separator.result.2 c.requires.index c.remove_at-separator.ensures.key c.remove_at-separator.ensures.child c.remove_at-separator.ensures.argument c.remove_at-separator.ensures.after).index
 
 pub returns-in-Ok-clause-rotates : goal.returns-in-Ok-clause-rotates
 returns-in-Ok-clause-rotates g c =
@@ -13,7 +13,7 @@ returns-in-Ok-clause-rotates g c =
       up = c.move_child-up.result;
       separator = c.remove_at-separator.result.0;
       some = (c.requires.left, c.requires.right);
-      entry = entry_out c.args.node.now c.remove_at-separator.new.self c.args.slot c.remove_at-separator.result.0 c.remove_at-separator.result.1 c.remove_at-separator.result.2 c.requires.place c.remove_at-separator.ensures.key c.remove_at-separator.ensures.child c.remove_at-separator.ensures.argument c.remove_at-separator.ensures.after;
+      entry = entry_out c.args.node.now c.remove_at-separator.new.self c.args.slot c.remove_at-separator.result.0 c.remove_at-separator.result.1 c.remove_at-separator.result.2 c.requires.index c.remove_at-separator.ensures.key c.remove_at-separator.ensures.child c.remove_at-separator.ensures.argument c.remove_at-separator.ensures.after;
       moves = c.move_child-up.ensures;
       rotates = c.in-Ok.ensures.rotates;
     }
@@ -22,17 +22,17 @@ pub returns-in-Err-clause-node : goal.returns-in-Err-clause-node
 returns-in-Err-clause-node g c =
     let moved = c.move_child-up in
     let back = c.move_child-separator in
-    let same = child_moved_back c.args.giver c.args.left.now c.args.right.now moved.new.left moved.new.right back.new.left back.new.right c.remove_at-separator.result.0 moved.result back.result c.requires.left c.requires.right moved.ensures (rw (c.other.ensures, c.in-Err.ensures.handed_back) at back.ensures) in
-    entry_returned c.args.node.now c.remove_at-separator.new.self c.ask_inners.new.node c.insert_at.new.self c.args.slot c.remove_at-separator.result.0 c.remove_at-separator.result.1 c.remove_at-separator.result.2 c.requires.place c.remove_at-separator.ensures.key c.remove_at-separator.ensures.child c.remove_at-separator.ensures.argument c.remove_at-separator.ensures.after c.in-Err.ensures.refused (rw same.2 at c.insert_at.ensures)
+    let same = child_moved_back c.args.giver c.args.left.now c.args.right.now moved.new.left moved.new.right back.new.left back.new.right c.remove_at-separator.result.0 moved.result back.result c.requires.left c.requires.right moved.ensures (rw (c.other.ensures, c.in-Err.ensures.returned) at back.ensures) in
+    entry_returned c.args.node.now c.remove_at-separator.new.self c.resummarize_inners.new.node c.insert_at.new.self c.args.slot c.remove_at-separator.result.0 c.remove_at-separator.result.1 c.remove_at-separator.result.2 c.requires.index c.remove_at-separator.ensures.key c.remove_at-separator.ensures.child c.remove_at-separator.ensures.argument c.remove_at-separator.ensures.after c.in-Err.ensures.unchanged (rw same.2 at c.insert_at.ensures)
 
 pub returns-in-Err-clause-left : goal.returns-in-Err-clause-left
 returns-in-Err-clause-left g c =
     let moved = c.move_child-up in
     let back = c.move_child-separator in
-    (child_moved_back c.args.giver c.args.left.now c.args.right.now moved.new.left moved.new.right back.new.left back.new.right c.remove_at-separator.result.0 moved.result back.result c.requires.left c.requires.right moved.ensures (rw (c.other.ensures, c.in-Err.ensures.handed_back) at back.ensures)).0
+    (child_moved_back c.args.giver c.args.left.now c.args.right.now moved.new.left moved.new.right back.new.left back.new.right c.remove_at-separator.result.0 moved.result back.result c.requires.left c.requires.right moved.ensures (rw (c.other.ensures, c.in-Err.ensures.returned) at back.ensures)).0
 
 pub returns-in-Err-clause-right : goal.returns-in-Err-clause-right
 returns-in-Err-clause-right g c =
     let moved = c.move_child-up in
     let back = c.move_child-separator in
-    (child_moved_back c.args.giver c.args.left.now c.args.right.now moved.new.left moved.new.right back.new.left back.new.right c.remove_at-separator.result.0 moved.result back.result c.requires.left c.requires.right moved.ensures (rw (c.other.ensures, c.in-Err.ensures.handed_back) at back.ensures)).1
+    (child_moved_back c.args.giver c.args.left.now c.args.right.now moved.new.left moved.new.right back.new.left back.new.right c.remove_at-separator.result.0 moved.result back.result c.requires.left c.requires.right moved.ensures (rw (c.other.ensures, c.in-Err.ensures.returned) at back.ensures)).1

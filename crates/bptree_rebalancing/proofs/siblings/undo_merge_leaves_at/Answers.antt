@@ -3,7 +3,7 @@ use Rattle.std.proofs.Common.{ℕ}
 use Rattle.bptree_nodes.specs.Leaf.{Leaf}
 use Rattle.bptree_nodes.specs.Slot.{Slot}
 use Rattle.bptree_rebalancing.proofs.Triples.{leaves_unmerged_at}
-use Rattle.bptree_ascent.proofs.Undone.{same_node}
+use Rattle.bptree_propagation.proofs.Undone.{same_node}
 use Rattle.bptree_rebalancing.proofs.siblings.undo_merge_leaves_at.Goals as goal
 
 pub undo_merge_leaves-requires-clause-kept : goal.undo_merge_leaves-requires-clause-kept

@@ -1,4 +1,4 @@
-use Rattle.bptree_shape.specs.Shape.{inner_children}
+use Rattle.bptree_invariant.specs.Shape.{inner_children}
 use Rattle.bptree_rebalancing.proofs.Choosing.{nodes_of_leaves}
 use Rattle.bptree_rebalancing.proofs.underflow.leaf_sibling.Goals as goal
 

@@ -1,8 +1,8 @@
 use Rattle.std.proofs.Common.{◌∙◌, length, sym, ap, arith}
-use Rattle.bptree_shape.specs.Shape.{leaf_pairs}
+use Rattle.bptree_invariant.specs.Shape.{leaf_pairs}
 use Rattle.bptree_rebalancing.proofs.LeafSpot as spot
 use Rattle.bptree_rebalancing.proofs.ClimbingLeaf as climb
-use Rattle.bptree_ascent.proofs.SlotFacts.{next_seen}
+use Rattle.bptree_propagation.proofs.SlotFacts.{next_seen}
 use Rattle.bptree_rebalancing.proofs.underflow.rebalance_leaf.Goals as goal
 
 pub leaf_sibling-slot-requires-clause-children : goal.leaf_sibling-slot-requires-clause-children
@@ -11,8 +11,8 @@ leaf_sibling-slot-requires-clause-children g c = spot.leaves_there g.met.S.K.Ord
 pub leaf_sibling-slot-requires-clause-long : goal.leaf_sibling-slot-requires-clause-long
 leaf_sibling-slot-requires-clause-long g c = spot.long_there g.met.S.K.Ord.total c.requires.0
 
-pub leaf_sibling-slot-requires-clause-place : goal.leaf_sibling-slot-requires-clause-place
-leaf_sibling-slot-requires-clause-place g c = (spot.node_there g.met.S.K.Ord.total c.requires.0, spot.place_there g.met.S.K.Ord.total c.requires.0, spot.fits_there g.met.S.K.Ord.total c.requires.0)
+pub leaf_sibling-slot-requires-clause-index : goal.leaf_sibling-slot-requires-clause-index
+leaf_sibling-slot-requires-clause-index g c = (spot.node_there g.met.S.K.Ord.total c.requires.0, spot.index_there g.met.S.K.Ord.total c.requires.0, spot.fits_there g.met.S.K.Ord.total c.requires.0)
 
 pub leaves_at-requires-clause-children : goal.leaves_at-requires-clause-children
 leaves_at-requires-clause-children g c = spot.leaves_there g.met.S.K.Ord.total c.requires.0
@@ -20,8 +20,8 @@ leaves_at-requires-clause-children g c = spot.leaves_there g.met.S.K.Ord.total c
 pub leaves_at-requires-clause-slot : goal.leaves_at-requires-clause-slot
 leaves_at-requires-clause-slot g c = (spot.node_there g.met.S.K.Ord.total c.requires.0, spot.slot_there g.met.S.K.Ord.total c.requires.0 c.leaf_sibling-slot.result.0 c.leaf_sibling-slot.result.1 c.leaf_sibling-slot.ensures, spot.fits_there g.met.S.K.Ord.total c.requires.0)
 
-pub rotate_leaves_at-requires-clause-place : goal.rotate_leaves_at-requires-clause-place
-rotate_leaves_at-requires-clause-place g c = spot.entry_there g.met.S.K.Ord.total c.requires.0 c.leaf_sibling-slot.result.0 c.leaf_sibling-slot.result.1 c.leaf_sibling-slot.ensures
+pub rotate_leaves_at-requires-clause-index : goal.rotate_leaves_at-requires-clause-index
+rotate_leaves_at-requires-clause-index g c = spot.entry_there g.met.S.K.Ord.total c.requires.0 c.leaf_sibling-slot.result.0 c.leaf_sibling-slot.result.1 c.leaf_sibling-slot.ensures
 
 pub rotate_leaves_at-requires-clause-most : goal.rotate_leaves_at-requires-clause-most
 rotate_leaves_at-requires-clause-most g c = spot.most_there g.met.S.K.Ord.total c.requires.0
@@ -41,8 +41,8 @@ rotate_leaves_at-requires-clause-some g c = omega (arith, (spot.right_there g.me
 pub rotate_leaves_at-requires-clause-apart : goal.rotate_leaves_at-requires-clause-apart
 rotate_leaves_at-requires-clause-apart g c = spot.apart_there g.met.S.K.Ord.total c.requires.0 c.leaf_sibling-slot.result.0 c.leaves_at.result.0 c.leaves_at.result.1 c.leaves_at.ensures.left c.leaves_at.ensures.right
 
-pub merge_leaves_at-requires-clause-place : goal.merge_leaves_at-requires-clause-place
-merge_leaves_at-requires-clause-place g c = spot.entry_there g.met.S.K.Ord.total c.requires.0 c.leaf_sibling-slot.result.0 c.leaf_sibling-slot.result.1 c.leaf_sibling-slot.ensures
+pub merge_leaves_at-requires-clause-index : goal.merge_leaves_at-requires-clause-index
+merge_leaves_at-requires-clause-index g c = spot.entry_there g.met.S.K.Ord.total c.requires.0 c.leaf_sibling-slot.result.0 c.leaf_sibling-slot.result.1 c.leaf_sibling-slot.ensures
 
 pub merge_leaves_at-requires-clause-most : goal.merge_leaves_at-requires-clause-most
 merge_leaves_at-requires-clause-most g c = spot.most_there g.met.S.K.Ord.total c.requires.0
@@ -87,7 +87,7 @@ relink_next-requires g c =
 pub undo_merge_leaves_at-requires : goal.undo_merge_leaves_at-requires
 undo_merge_leaves_at-requires g c = (
   g.S.NodeStore.slots c.args.store.now,
-  rw c.in-Err-ascend_underflow.ensures.refused c.in_ok-above-in-None.ensures.merges,
+  rw c.in-Err-ascend_underflow.ensures.unchanged c.in_ok-above-in-None.ensures.merges,
   c.len-kept.ensures.value ∙ sym (ap (λ slot. length (leaf_pairs slot)) c.get_leaf.ensures),
 )
 
@@ -105,9 +105,9 @@ returns-in-Ok-ascend_underflow-clause-trims g c short =
     (g.S.NodeStore.slots c.release_leaf.new.self) c.release_leaf.ensures c.next-next.result (next_seen _ c.get_leaf-in-None.result.now c.get_leaf-in-None.ensures ∙ sym c.next-next.ensures)
     (g.S.NodeStore.slots c.relink_next.new.store) c.relink_next.ensures
 
-pub returns-in-Err-ascend_underflow-clause-refused : goal.returns-in-Err-ascend_underflow-clause-refused
-returns-in-Err-ascend_underflow-clause-refused g c =
+pub returns-in-Err-ascend_underflow-clause-unchanged : goal.returns-in-Err-ascend_underflow-clause-unchanged
+returns-in-Err-ascend_underflow-clause-unchanged g c =
     let done = c.in_ok-above-in-None in
-    c.undo_merge_leaves_at.ensures (g.S.NodeStore.slots c.args.store.now) (rw c.in-Err-ascend_underflow.ensures.refused done.ensures.merges)
+    c.undo_merge_leaves_at.ensures (g.S.NodeStore.slots c.args.store.now) (rw c.in-Err-ascend_underflow.ensures.unchanged done.ensures.merges)
     (c.len-kept.ensures.value ∙ sym (ap (λ slot. length (leaf_pairs slot)) c.get_leaf.ensures)) c.leaves_at.ensures.right
     (climb.link_so g.met.S.K.Ord.total c.requires.0 c.leaf_sibling-slot.result.0 c.leaf_sibling-slot.result.1 c.leaf_sibling-slot.ensures c.leaves_at.result.0 c.leaves_at.result.1 c.leaves_at.ensures.left c.leaves_at.ensures.right done.joint done.emptied.value done.ensures.merges done.above done.ensures.sums)

@@ -1,6 +1,6 @@
 use Rattle.std.proofs.Common.{length, ap, arith, refl, sym}
-use Rattle.bptree_shape.proofs.Low.{low_tree}
-use Rattle.bptree_shape.proofs.LeafFor.{node_ascends, absent_there}
+use Rattle.bptree_invariant.proofs.Low.{low_tree}
+use Rattle.bptree_invariant.proofs.LeafFor.{node_ascends, absent_there}
 use Rattle.bptree_removal.proofs.Removals.{found_there}
 use Rattle.bptree_removal.proofs.removal.find_entry.Goals as goal
 
@@ -32,5 +32,5 @@ returns-in-Err-clause-there g c =
     let tree = c.tree.inside in
     let old = g.S.NodeStore.slots tree.store in
     let node = c.get_leaf.result.now in
-    let place = c.in-Err.ensures.place (node_ascends total sum old tree.height tree.root c.args.k.now c.find_path-leaf.result node c.tree.invariant.0 c.find_path-leaf.ensures.leaf c.get_leaf.ensures) in
-    rw (← c.tree.view_is) (sym (absent_there total sum old tree.height tree.root c.args.k.now c.find_path-leaf.result node c.tree.invariant.0 c.find_path-leaf.ensures.leaf c.get_leaf.ensures place.0))
+    let index = c.in-Err.ensures.index (node_ascends total sum old tree.height tree.root c.args.k.now c.find_path-leaf.result node c.tree.invariant.0 c.find_path-leaf.ensures.leaf c.get_leaf.ensures) in
+    rw (← c.tree.view_is) (sym (absent_there total sum old tree.height tree.root c.args.k.now c.find_path-leaf.result node c.tree.invariant.0 c.find_path-leaf.ensures.leaf c.get_leaf.ensures index.0))

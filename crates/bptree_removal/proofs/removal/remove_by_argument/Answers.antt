@@ -1,5 +1,5 @@
 use Rattle.std.proofs.Common.{◌<◌, ◌^◌, length, refl, subst, []}
-use Rattle.bptree_shape.specs.Shape.{pairs_at}
+use Rattle.bptree_invariant.specs.Shape.{pairs_at}
 use Rattle.bptree_removal.proofs.Withdrawn.{found_key, withdrawn}
 use Rattle.bptree_removal.proofs.removal.remove_by_argument.Goals as goal
 

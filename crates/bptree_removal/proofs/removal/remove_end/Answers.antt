@@ -1,9 +1,9 @@
 use Rattle.std.proofs.Common.{◌≡◌, ◌<◌, ◌-◌, ◌∙◌, ap, arith, cond, length, refl, slice_get, sym}
-use Rattle.bptree_shape.proofs.Low.{low_tree}
+use Rattle.bptree_invariant.proofs.Low.{low_tree}
 use Rattle.bptree_keys.specs.Ends.{is_back}
-use Rattle.bptree_shape.specs.Shape.{leaf_pairs, pairs_at}
-use Rattle.bptree_shape.proofs.Ends.{end_pair, end_within}
-use Rattle.bptree_descents.proofs.Summed.{whole_subtree}
+use Rattle.bptree_invariant.specs.Shape.{leaf_pairs, pairs_at}
+use Rattle.bptree_invariant.proofs.Ends.{end_pair, end_within}
+use Rattle.bptree_search.proofs.Summed.{whole_subtree}
 use Rattle.bptree_removal.proofs.EndPaths.{entry_there, few_of, left_there, none_at_end, none_here, pair_there, some_here}
 use Rattle.bptree_removal.proofs.removal.remove_end.Goals as goal
 
@@ -49,16 +49,16 @@ returns-clause-removed g c =
     let node = c.get_leaf.result.now in
     let slot = c.end_index-slot.result in
     let few = few_of c.tree.inside.len _ c.tree.invariant.1 (omega arith) in
-    let place = cond (is_back c.args.end) (length (pairs_at old tree.height tree.root) - 1) 0 in
+    let index = cond (is_back c.args.end) (length (pairs_at old tree.height tree.root) - 1) 0 in
     let some : 0 < length node.pairs = omega (arith, c.len-len.ensures.value) in
-    let stands : slot ≡ cond (is_back c.args.end) (length node.pairs - 1) 0 = rw c.len-len.ensures.value at c.end_index-slot.ensures in
-    let within : slot < length (leaf_pairs (old.leaf leaf.0)) = rw c.get_leaf.ensures (end_within (is_back c.args.end) (length node.pairs) slot some stands) in
+    let stored : slot ≡ cond (is_back c.args.end) (length node.pairs - 1) 0 = rw c.len-len.ensures.value at c.end_index-slot.ensures in
+    let within : slot < length (leaf_pairs (old.leaf leaf.0)) = rw c.get_leaf.ensures (end_within (is_back c.args.end) (length node.pairs) slot some stored) in
     let at = end_pair g.S.K.Ord.cmp old tree.height tree.root c.tree.invariant.0.tree leaf node c.get_leaf.ensures (is_back c.args.end) c.end_path-leaf.ensures.leaf in
-    let here : slice_get (leaf_pairs (old.leaf leaf.0)) slot ≡ slice_get (pairs_at old tree.height tree.root) place = rw (c.get_leaf.ensures, stands) at in
+    let here : slice_get (leaf_pairs (old.leaf leaf.0)) slot ≡ slice_get (pairs_at old tree.height tree.root) index = rw (c.get_leaf.ensures, stored) at in
     let pair = pair_there total sum old tree.height tree.root c.tree.invariant.0 few leaf slot within c.clear.new.self c.end_path-leaf.new.path c.clear.ensures (c.end_path-leaf.ensures.way slot) in
     let there = entry_there total sum old tree.height tree.root c.tree.invariant.0 few leaf slot within c.clear.new.self c.end_path-leaf.new.path c.clear.ensures (c.end_path-leaf.ensures.way slot) in
     let taken = c.in_ok-take_entry_by.ensures.taken pair.0.0 (rw (← c.tree.view_is) there) in
-    rw (← c.tree.view_is) (left_there total sum old tree.height tree.root c.tree.invariant.0 few leaf slot within c.clear.new.self c.end_path-leaf.new.path c.clear.ensures (c.end_path-leaf.ensures.way slot) _ _ place here (rw (← c.tree.view_is) at taken.0) taken.1 (rw (← c.tree.view_is) at taken.2))
+    rw (← c.tree.view_is) (left_there total sum old tree.height tree.root c.tree.invariant.0 few leaf slot within c.clear.new.self c.end_path-leaf.new.path c.clear.ensures (c.end_path-leaf.ensures.way slot) _ _ index here (rw (← c.tree.view_is) at taken.0) taken.1 (rw (← c.tree.view_is) at taken.2))
 
 pub returns-in_err-take_entry_by-clause-empty : goal.returns-in_err-take_entry_by-clause-empty
 returns-in_err-take_entry_by-clause-empty g c empty =

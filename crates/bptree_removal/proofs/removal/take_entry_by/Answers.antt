@@ -1,6 +1,6 @@
 use Rattle.std.proofs.Common.{arith, refl}
 use Rattle.bptree_removal.proofs.EndPaths.{there_of, taken_from, entry_taken}
-use Rattle.bptree_removal.proofs.OneFewer.{one_fewer, place_within}
+use Rattle.bptree_removal.proofs.OneFewer.{one_fewer, index_within}
 use Rattle.bptree_removal.proofs.removal.take_entry_by.Goals as goal
 
 pub take_out-requires : goal.take_out-requires
@@ -32,7 +32,7 @@ overflow_sub-tree g c =
     let at = rw (← c.tree.view_is) at c.requires.1 in
     let taken = taken_from _ _ _ _ _ _ _ _ c.requires.0 _ _ _ _ (c.in_ok-pair.ensures.leaves c.requires.0 (there_of at.0) c.tree.invariant.2) c.shrink_root-root.ensures.shape c.shrink_root-root.ensures.pairs in
     let r = entry_taken g.met.S.K.Ord.total _ _ _ _ _ _ _ _ c.requires.0 _ _ _ _ at taken in
-    omega (arith, place_within r.2, c.tree.invariant.1)
+    omega (arith, index_within r.2, c.tree.invariant.1)
 
 pub returns-clause-whole : goal.returns-clause-whole
 returns-clause-whole g c =

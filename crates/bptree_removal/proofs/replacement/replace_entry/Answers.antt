@@ -14,7 +14,7 @@ invariant_of-tree g c =
     let tree = c.tree.inside in
     let at = rw (← c.tree.view_is) at c.requires in
     let done = c.in-Ok.ensures.replaced (there_of at.0) c.tree.invariant.2 in
-    (done.shape, as_many g.met.S.K.Ord.total g.S.Argument.Argument.is_summary (slots tree.store) (slots c.replace_in_place.new.store) tree.height tree.root c.args.path.now c.args.at c.args.key c.in-Ok.old c.in-Ok.summary at done tree.len c.tree.invariant.1, done.told)
+    (done.shape, as_many g.met.S.K.Ord.total g.S.Argument.Argument.is_summary (slots tree.store) (slots c.replace_in_place.new.store) tree.height tree.root c.args.path.now c.args.at c.args.key c.in-Ok.old c.in-Ok.summary at done tree.len c.tree.invariant.1, done.reported)
 
 pub returns-in-Ok-clause-replaced : goal.returns-in-Ok-clause-replaced
 returns-in-Ok-clause-replaced g c =
@@ -28,4 +28,4 @@ pub returns-in-Ok-clause-whole : goal.returns-in-Ok-clause-whole
 returns-in-Ok-clause-whole g c =
     let at = rw (← c.tree.view_is) at c.requires in
     let done = c.in-Ok.ensures.replaced (there_of at.0) c.tree.invariant.2 in
-    record { shape = done.shape; contents = refl; summary = done.told }
+    record { shape = done.shape; contents = refl; summary = done.reported }

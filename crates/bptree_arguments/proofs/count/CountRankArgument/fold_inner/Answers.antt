@@ -5,5 +5,5 @@ use Rattle.bptree_keys.specs.Pieces.{flatten}
 
 pub returns-clause-carries : goal.returns-clause-carries
 returns-clause-carries g c =
-    λ before pieces nonempty summaries ascending below fits stands.
-    omega (arith, sum_by-lengths (λ a. a.0) c.args.arguments.now pieces summaries, fits, stands, length-append before (flatten pieces), c.total_of.ensures)
+    λ before pieces nonempty summaries ascending below fits stored.
+    omega (arith, sum_by-lengths (λ a. a.0) c.args.arguments.now pieces summaries, fits, stored, length-append before (flatten pieces), c.total_of.ensures)

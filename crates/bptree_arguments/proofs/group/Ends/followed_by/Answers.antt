@@ -13,10 +13,10 @@ returns-in_default-clause-ends g c = λ xs ys a b h fits.
     rw c.saturating_add-total.ensures
     (joined_apart g.met.G.Ord.total xs ys (c.args.self.least.now, c.args.self.least_size) (c.args.self.greatest.now, c.args.self.greatest_size) (c.args.next.least.now, c.args.next.least_size) (c.args.next.greatest.now, c.args.next.greatest_size) c.args.self.group_count c.args.next.group_count a b h fits (λ q. c.in_default.not-Equal (c.cmp.ensures ∙ q)))
 
-pub returns-in-Equal-clause-told : goal.returns-in-Equal-clause-told
-returns-in-Equal-clause-told g c =
+pub returns-in-Equal-clause-reported : goal.returns-in-Equal-clause-reported
+returns-in-Equal-clause-reported g c =
     rw (c.saturating_sub.ensures, c.saturating_add-total.ensures, c.with_share.ensures.exact, c.with_share-in-Equal.ensures.exact, sym c.cmp.ensures ∙ c.in-Equal.is)
 
-pub returns-in_default-clause-told : goal.returns-in_default-clause-told
-returns-in_default-clause-told g c =
+pub returns-in_default-clause-reported : goal.returns-in_default-clause-reported
+returns-in_default-clause-reported g c =
     rw (c.saturating_add-total.ensures, unequal (g.G.Ord.cmp c.args.self.greatest.now c.args.next.least.now) (λ e. c.in_default.not-Equal (c.cmp.ensures ∙ e)))

@@ -3,8 +3,8 @@ use Rattle.std.proofs.lemmas.List.{take_all}
 use Rattle.bptree_keys.proofs.PieceLemmas.{AllZip-length}
 use Rattle.bptree_arguments.proofs.GroupLemmas.{child_within, summary_here}
 use Rattle.bptree_arguments.proofs.GroupEndsLemmas.{ends_kept, ends_skip, ends_first, ends_more}
-use Rattle.bptree_arguments.proofs.GroupSumLemmas.{more_told}
-use Rattle.bptree_arguments.specs.GroupSums.{told_by_ends}
+use Rattle.bptree_arguments.proofs.GroupSumLemmas.{more_reported}
+use Rattle.bptree_arguments.specs.GroupSums.{summary_of_ends}
 use Rattle.bptree_arguments.proofs.group.GroupCountArgument.from_inner.Goals as goal
 use Rattle.bptree_arguments.proofs.group.GroupCountArgument.from_inner.Goals.{in-None, in-Some, in-None-whole, in-Some-whole}
 
@@ -28,30 +28,30 @@ loop-argument-preserved g c = record {
           | in-Some-whole v ↦ rw (w.whole-is, v.whole-is) (ends_more cmp compare group_of keeps total pieces i inside are v.in-Some-whole.ends w.in-Some.next v.followed_by.result v.followed_by.ensures.ends (rw v.in-Some-whole.is at known) (w.in-Some.ensures.ends _ here))
         ]
       ];
-  told =
+  reported =
       let compare = g.G.Ord.cmp in
-      let before = c.loop-argument.invariant.told in
-      let step = more_told compare c.args.arguments.now c.loop-argument.argument-index c.argument-item.result c.loop-argument-test.true c.argument-item.is (option_map (λ ends. told_by_ends ends) c.loop-argument.whole) before in
+      let before = c.loop-argument.invariant.reported in
+      let step = more_reported compare c.args.arguments.now c.loop-argument.argument-index c.argument-item.result c.loop-argument-test.true c.argument-item.is (option_map (λ ends. summary_of_ends ends) c.loop-argument.whole) before in
       elim c.match-ends.branch [
-        | in-None w ↦ rw w.whole-is (rw (← w.in-None.ensures.told) at step)
+        | in-None w ↦ rw w.whole-is (rw (← w.in-None.ensures.reported) at step)
         | in-Some w ↦ elim w.match-whole.branch [
-          | in-None-whole v ↦ rw (w.whole-is, v.whole-is) (rw (← w.in-Some.ensures.told, v.in-None-whole.is) at step)
-          | in-Some-whole v ↦ rw (w.whole-is, v.whole-is, v.followed_by.ensures.told) (rw (← w.in-Some.ensures.told, v.in-Some-whole.is) at step)
+          | in-None-whole v ↦ rw (w.whole-is, v.whole-is) (rw (← w.in-Some.ensures.reported, v.in-None-whole.is) at step)
+          | in-Some-whole v ↦ rw (w.whole-is, v.whole-is, v.followed_by.ensures.reported) (rw (← w.in-Some.ensures.reported, v.in-Some-whole.is) at step)
         ]
       ];
 }
 
-pub returns-in-None-whole-2-clause-told : goal.returns-in-None-whole-2-clause-told
-returns-in-None-whole-2-clause-told g c =
+pub returns-in-None-whole-2-clause-reported : goal.returns-in-None-whole-2-clause-reported
+returns-in-None-whole-2-clause-reported g c =
     let whole = take_all c.loop-argument.argument-index c.args.arguments.now (omega arith) in
-    let none = rw (whole, c.in-None-whole-2.is) at c.loop-argument.invariant.told in
+    let none = rw (whole, c.in-None-whole-2.is) at c.loop-argument.invariant.reported in
     rw (← none) tt
 
-pub returns-in-Some-whole-2-clause-told : goal.returns-in-Some-whole-2-clause-told
-returns-in-Some-whole-2-clause-told g c =
+pub returns-in-Some-whole-2-clause-reported : goal.returns-in-Some-whole-2-clause-reported
+returns-in-Some-whole-2-clause-reported g c =
     let whole = take_all c.loop-argument.argument-index c.args.arguments.now (omega arith) in
-    let some = rw (whole, c.in-Some-whole-2.is) at c.loop-argument.invariant.told in
-    rw (← some) c.to_summary.ensures.told
+    let some = rw (whole, c.in-Some-whole-2.is) at c.loop-argument.invariant.reported in
+    rw (← some) c.to_summary.ensures.reported
 
 pub returns-in-None-whole-2-clause-summary : goal.returns-in-None-whole-2-clause-summary
 returns-in-None-whole-2-clause-summary g c = λ pieces are summaries.

@@ -3,6 +3,6 @@ use Rattle.bptree_arguments.proofs.group.GroupCountArgument.key_count.Goals as g
 
 pub returns-in-One : goal.returns-in-One
 returns-in-One g c = record {
-  told = λ keys told.
-      only_size g.met.G.Ord.total g.G.FromRef.group_of c.in-One.field-0 c.in-One.size keys (rw c.in-One.is at told);
+  reported = λ keys reported.
+      only_size g.met.G.Ord.total g.G.FromRef.group_of c.in-One.field-0 c.in-One.size keys (rw c.in-One.is at reported);
 }

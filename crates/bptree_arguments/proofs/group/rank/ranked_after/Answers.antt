@@ -4,13 +4,13 @@ use Rattle.bptree_arguments.proofs.GroupRankLemmas.{carried_alike, ranked_in_lea
 use Rattle.bptree_arguments.proofs.group.rank.ranked_after.Goals as goal
 
 pub returns-then-start-gt0-clause-counted : goal.returns-then-start-gt0-clause-counted
-returns-then-start-gt0-clause-counted g c = λ before ascending below fits stands.
+returns-then-start-gt0-clause-counted g c = λ before ascending below fits stored.
     ranked_in_leaf g.K.Ord.cmp g.G.Ord.cmp g.G.FromRef.group_of g.met.G.FromRef.keeps_order g.met.G.Ord.total c.args.k.now c.in_ok-group.group c.in_ok-group.ensures c.args.smaller.now c.in_ok-start.start c.in_ok-start.ensures.in_range c.in_ok-start.ensures.border before ascending below c.if-start-gt0.true
 
 pub returns-clause-counted : goal.returns-clause-counted
-returns-clause-counted g c = λ before ascending below fits stands.
+returns-clause-counted g c = λ before ascending below fits stored.
     rw c.saturating_add.ensures
-    (ranked_with_carried g.K.Ord.cmp g.G.Ord.cmp g.G.FromRef.group_of g.met.G.FromRef.keeps_order g.met.G.Ord.total c.args.k.now c.in_ok-group.group c.in_ok-group.ensures c.args.smaller.now c.in_ok-start.start c.in_ok-start.ensures.in_range c.in_ok-start.ensures.border before ascending below c.args.rank c.carried_for-before.result fits stands c.if-start-gt0.false c.carried_for-before.ensures)
+    (ranked_with_carried g.K.Ord.cmp g.G.Ord.cmp g.G.FromRef.group_of g.met.G.FromRef.keeps_order g.met.G.Ord.total c.args.k.now c.in_ok-group.group c.in_ok-group.ensures c.args.smaller.now c.in_ok-start.start c.in_ok-start.ensures.in_range c.in_ok-start.ensures.border before ascending below c.args.rank c.carried_for-before.result fits stored c.if-start-gt0.false c.carried_for-before.ensures)
 
 pub returns-in_err-group-clause-group : goal.returns-in_err-group-clause-group
 returns-in_err-group-clause-group g c = IfOk-from_err c.from_residual.result _ c.from_residual.ensures.0

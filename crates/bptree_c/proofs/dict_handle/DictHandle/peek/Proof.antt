@@ -1,4 +1,4 @@
--- `peek` lends the value, and the handle follows it.
+-- `peek` borrows the value, and the handle ends with what the borrow leaves.
 use Rattle.std.proofs.Common.{refl}
 use Rattle.bptree_c.specs.contracts.dict_handle.DictHandle.{the_type, the_row}
 use Rattle.bptree_c.specs.contracts.dict_handle.DictHandle.peek.Key.{name as #self}

@@ -82,11 +82,11 @@ pub merge_next-requires-2-clause-right : goal.merge_next-requires-2-clause-right
 merge_next-requires-2-clause-right g c =
     let after = rw c.deref_mut-2.ensures.value at c.remove_at-taken-2.ensures.after in
     let fits = rw c.deref.ensures at c.recall.ensures.children in
-    let place = c.args.slot - c.len-kept.result - 1 in
-    omega (arith, fits, c.requires.slot, ap (λ node. length node.children) after, length-remove c.args.right.value.children (place + 1) (omega (arith, fits, c.requires.slot)))
+    let index = c.args.slot - c.len-kept.result - 1 in
+    omega (arith, fits, c.requires.slot, ap (λ node. length node.children) after, length-remove c.args.right.value.children (index + 1) (omega (arith, fits, c.requires.slot)))
 
 pub merge_next-requires-2-clause-fits : goal.merge_next-requires-2-clause-fits
 merge_next-requires-2-clause-fits g c =
     let after = rw c.deref_mut-2.ensures.value at c.remove_at-taken-2.ensures.after in
-    let place = c.args.slot - c.len-kept.result - 1 in
-    omega (arith, c.requires.slot, c.requires.most, ap (λ node. length node.keys) after, length-remove c.args.right.value.keys place (omega (arith, c.requires.slot)))
+    let index = c.args.slot - c.len-kept.result - 1 in
+    omega (arith, c.requires.slot, c.requires.most, ap (λ node. length node.keys) after, length-remove c.args.right.value.keys index (omega (arith, c.requires.slot)))

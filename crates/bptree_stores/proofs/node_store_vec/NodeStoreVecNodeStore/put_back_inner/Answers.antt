@@ -1,7 +1,7 @@
 use Rattle.std.proofs.Common.{refl}
-use Rattle.bptree_stores.proofs.Places.{Updates-held}
+use Rattle.bptree_stores.proofs.IdStates.{Updates-held}
 use Rattle.bptree_stores.specs.StoreSlabs.{boxed}
-use Rattle.bptree_stores.specs.declared.place.Place.TheVariants.{Occupied}
+use Rattle.bptree_stores.specs.declared.id_state.IdState.TheVariants.{Occupied}
 use Rattle.bptree_stores.proofs.node_store_vec.NodeStoreVecNodeStore.put_back_inner.Goals as goal
 
 pub returns : goal.returns

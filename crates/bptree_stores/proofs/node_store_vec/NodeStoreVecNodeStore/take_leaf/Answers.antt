@@ -1,7 +1,7 @@
 use Rattle.std.proofs.Common.{refl, sym, ap, ◌∙◌, Some}
-use Rattle.bptree_stores.specs.Place.{slot_of_entry, Updates-with_place}
+use Rattle.bptree_stores.specs.IdState.{slot_of_entry, Updates-with_place}
 use Rattle.bptree_stores.specs.StoreSlabs.{seated}
-use Rattle.bptree_stores.specs.declared.place.Place.TheVariants.{Reserved}
+use Rattle.bptree_stores.specs.declared.id_state.IdState.TheVariants.{Reserved}
 use Rattle.bptree_stores.proofs.node_store_vec.NodeStoreVecNodeStore.take_leaf.Goals as goal
 
 pub returns-clause-value : goal.returns-clause-value

@@ -17,13 +17,13 @@ take_back-requires-clause-room g c =
     let room = c.in_ok-tail.ensures.room in
     omega (arith, c.push_reserved.ensures.len, c.push_reserved.ensures.capacity, c.move_back.ensures.len, c.move_back.ensures.capacity, room.1, room.2, err.3, ap length err.1, length-append err.0 (c.in-Err.pair ∷ c.put_each.new.rest), ap length c.into_iter-rest.ensures.rest, ap (λ t. length t.contents) c.replace.ensures.value, ap (λ t. length t.contents) c.other.view_is)
 
--- what is taken back: the pairs of the first tree are as before, and those that were moved are behind the others
+-- the first tree has the pairs it had, and those that were moved are behind the others
 undone : (g : Over) (c : After-take_back g) → (c.take_back.new.self.contents ≡ c.args.self.now.contents) × (c.take_back.new.pairs.items ≡ c.push_reserved.new.self.items ++ reverse c.in-Err.ensures.err.0)
 undone g c =
     let err = c.in-Err.ensures.err in
     c.take_back.ensures.undone err.0 c.args.self.now.contents c.recall_whole.ensures.ascending err.2
 
--- they are all pairs of the second tree, the last one first
+-- the pairs that were taken back are all pairs of the second tree, the last one first
 back : (g : Over) (c : After-take_back g) → reverse c.take_back.new.pairs.items ≡ c.args.other.now.contents
 back g c =
     let err = c.in-Err.ensures.err in

@@ -1,12 +1,12 @@
 use Rattle.std.proofs.Common.{◌≡◌, length, refl, sym, ◌∙◌}
 use Rattle.std.specs.Map.{keys_of}
-use Rattle.bptree_shape.specs.Shape.{pairs_at, IsWellShaped}
-use Rattle.bptree_tree.proofs.Cloned.{long_alike, pairs_alike, shape_alike, told_alike}
+use Rattle.bptree_invariant.specs.Shape.{pairs_at, IsWellShaped}
+use Rattle.bptree_tree.proofs.Cloned.{long_alike, pairs_alike, shape_alike, reported_alike}
 use Rattle.bptree_tree.proofs.tree.BPlusTree.clone.Given.{Over}
 use Rattle.bptree_tree.proofs.tree.BPlusTree.clone.Goals.{In_ok-summary}
 use Rattle.bptree_tree.proofs.tree.BPlusTree.clone.Goals as goal
 
--- the nodes of the clone are clones, under the same numbers
+-- the nodes of the clone are clones, under the same node ids
 copied : (g : Over) (c : In_ok-summary g)
     → IsWellShaped g.S.K.Ord.cmp g.S.Argument.Argument.is_summary (g.S.NodeStore.slots c.in_ok-store.store) c.nodes.inside.height c.nodes.inside.root
     × (length (pairs_at (g.S.NodeStore.slots c.in_ok-store.store) c.nodes.inside.height c.nodes.inside.root) ≡ length (pairs_at (g.S.NodeStore.slots c.nodes.inside.store) c.nodes.inside.height c.nodes.inside.root))
@@ -21,7 +21,7 @@ copied g c =
     let is_summary = g.S.Argument.Argument.is_summary in (
       shape_alike g.met.S.K.Ord.total is_summary g.S.K.Clone.is_clone g.S.V.Clone.is_clone g.S.Argument.Clone.is_clone equal summary old new same tree.height tree.root c.nodes.invariant.0,
       long_alike g.met.S.K.Ord.total is_summary g.S.K.Clone.is_clone g.S.V.Clone.is_clone g.S.Argument.Clone.is_clone equal summary old new same tree.height tree.root,
-      told_alike g.met.S.K.Ord.total is_summary g.S.K.Clone.is_clone g.S.V.Clone.is_clone g.S.Argument.Clone.is_clone equal summary old new same tree.height tree.root tree.summary c.in_ok-summary.summary c.in_ok-summary.ensures.cases c.nodes.invariant.2,
+      reported_alike g.met.S.K.Ord.total is_summary g.S.K.Clone.is_clone g.S.V.Clone.is_clone g.S.Argument.Clone.is_clone equal summary old new same tree.height tree.root tree.summary c.in_ok-summary.summary c.in_ok-summary.ensures.cases c.nodes.invariant.2,
     )
 
 pub invariant_of-copy : goal.invariant_of-copy

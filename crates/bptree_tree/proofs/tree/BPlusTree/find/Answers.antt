@@ -1,5 +1,5 @@
 use Rattle.std.proofs.Common.{Err, Ok, refl}
-use Rattle.bptree_descents.proofs.Beside.{lacks_key, present_there, slot_there}
+use Rattle.bptree_search.proofs.Beside.{lacks_key, present_there, slot_there}
 use Rattle.bptree_tree.proofs.EntryLemmas.{entry_there}
 use Rattle.bptree_tree.proofs.tree.BPlusTree.find.Goals as goal
 
@@ -18,7 +18,7 @@ returns-in-Ok g c =
     let tree = c.nodes.inside in
     let at = rw (← c.nodes.view_is) at c.in-Ok.ensures in
     record {
-      found = rw (← c.self.view_is, ← c.nodes.view_is) (entry_there g.met.S.K.Ord.total g.S.Argument.Argument.is_summary (g.S.NodeStore.slots tree.store) tree.height tree.root c.nodes.invariant.0 c.args.k.now c.in-Ok.at.leaf c.get_leaf.result.now at.for_key c.get_leaf.ensures c.in-Ok.at.slot _ (rw c.get_leaf.ensures at at.place_is) c.data_at.ensures.value);
+      found = rw (← c.self.view_is, ← c.nodes.view_is) (entry_there g.met.S.K.Ord.total g.S.Argument.Argument.is_summary (g.S.NodeStore.slots tree.store) tree.height tree.root c.nodes.invariant.0 c.args.k.now c.in-Ok.at.leaf c.get_leaf.result.now at.for_key c.get_leaf.ensures c.in-Ok.at.slot _ (rw c.get_leaf.ensures at at.index_is) c.data_at.ensures.value);
       absent = tt;
     }
 

@@ -1,4 +1,4 @@
-use Rattle.bptree_shape.proofs.Low.{low_tree}
+use Rattle.bptree_invariant.proofs.Low.{low_tree}
 use Rattle.bptree_tree.proofs.Heights.{high_long}
 use Rattle.bptree_tree.proofs.tree.BPlusTree.height.Goals as goal
 

@@ -1,9 +1,9 @@
 use Rattle.std.proofs.Common.{ap, length, None, ◌∙◌}
 use Rattle.std.proofs.iter.runs.Sources.{from_front}
 use Rattle.std.specs.Map.Iter.{TakesFirst, deref_pair}
-use Rattle.bptree_shape.specs.Shape.{root_least}
+use Rattle.bptree_invariant.specs.Shape.{root_least}
 use Rattle.bptree_tree.proofs.PartSpans.{whole_between}
-use Rattle.bptree_shape.proofs.Walk.{tree_ascends}
+use Rattle.bptree_invariant.proofs.Walk.{tree_ascends}
 use Rattle.bptree_tree.proofs.tree.BPlusTree.iter.Goals as goal
 
 pub new-requires : goal.new-requires

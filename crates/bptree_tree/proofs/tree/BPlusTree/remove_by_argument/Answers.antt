@@ -1,5 +1,5 @@
 use Rattle.std.proofs.lemmas.Result.{IfOk-weaker}
-use Rattle.bptree_tree.proofs.Removed.{selected_removed, told_removed}
+use Rattle.bptree_tree.proofs.Removed.{selected_removed, reported_removed}
 use Rattle.bptree_tree.proofs.tree.BPlusTree.remove_by_argument.Goals as goal
 
 pub returns-clause-ok : goal.returns-clause-ok
@@ -8,4 +8,4 @@ returns-clause-ok g c =
 
 pub returns-clause-by_key : goal.returns-clause-by_key
 returns-clause-by_key g c =
-    rw (← c.self.view_is) (IfOk-weaker c.remove_by_argument.result _ _ (told_removed g.S.Argument.SearchArgument.selects c.args.query g.met.S.K.Ord.total _ _ c.recall.ensures.ascending) c.remove_by_argument.ensures.removed)
+    rw (← c.self.view_is) (IfOk-weaker c.remove_by_argument.result _ _ (reported_removed g.S.Argument.SearchArgument.selects c.args.query g.met.S.K.Ord.total _ _ c.recall.ensures.ascending) c.remove_by_argument.ensures.removed)

@@ -1,4 +1,4 @@
--- The first pairs between the two keys have left.
+-- The first pairs between the two keys were removed.
 use Rattle.std.proofs.Common.{◌≡◌, ◌++◌, List, length}
 use Rattle.std.specs.Option.{option_copied}
 use Rattle.bptree_keys.specs.Ranges.{between}

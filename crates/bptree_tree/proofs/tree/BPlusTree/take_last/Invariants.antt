@@ -1,4 +1,4 @@
--- The last pairs have left, the greatest first.
+-- The last pairs were removed, the greatest first.
 use Rattle.std.proofs.Common.{◌+◌, ◌≤◌, List}
 use Rattle.std.specs.Prelude.{vec_capacity, vec_len}
 use Rattle.bptree_tree.proofs.LastTaken.{AreTaken}

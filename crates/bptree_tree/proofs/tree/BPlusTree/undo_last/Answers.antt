@@ -8,8 +8,8 @@ unwrap-requires g c =
     let pair = c.requires.put.0 in
     let l = c.requires.put.1 in
     let can = subst (λ e. CanUndo g.S.K.Ord.cmp e pair l) c.in-Inserted.is c.requires.put.3 in
-    let told = rw c.unwrap-removed.ensures at c.remove_entry.ensures.ok in
-    is_some c.unwrap-removed.result pair (told.0 ∙ inserted_pair g.met.S.K.Ord.total l c.requires.put.2 pair c.in-Inserted.k can c.args.self.now.contents c.requires.put.4)
+    let reported = rw c.unwrap-removed.ensures at c.remove_entry.ensures.ok in
+    is_some c.unwrap-removed.result pair (reported.0 ∙ inserted_pair g.met.S.K.Ord.total l c.requires.put.2 pair c.in-Inserted.k can c.args.self.now.contents c.requires.put.4)
 
 pub unwrap-requires-in-Replaced : goal.unwrap-requires-in-Replaced
 unwrap-requires-in-Replaced g c =
@@ -21,14 +21,14 @@ unwrap-requires-in-Replaced g c =
 pub returns-in-Inserted-clause-pair : goal.returns-in-Inserted-clause-pair
 returns-in-Inserted-clause-pair g c = λ pair l up can put.
     let is = subst (λ e. CanUndo g.S.K.Ord.cmp e pair l) c.in-Inserted.is can in
-    let told = rw c.unwrap-removed.ensures at c.remove_entry.ensures.ok in
-    some_same c.unwrap.result pair (sym c.unwrap.ensures ∙ (told.0 ∙ inserted_pair g.met.S.K.Ord.total l up pair c.in-Inserted.k is c.args.self.now.contents put))
+    let reported = rw c.unwrap-removed.ensures at c.remove_entry.ensures.ok in
+    some_same c.unwrap.result pair (sym c.unwrap.ensures ∙ (reported.0 ∙ inserted_pair g.met.S.K.Ord.total l up pair c.in-Inserted.k is c.args.self.now.contents put))
 
 pub returns-in-Inserted-clause-undone : goal.returns-in-Inserted-clause-undone
 returns-in-Inserted-clause-undone g c = λ pair l up can put.
     let is = subst (λ e. CanUndo g.S.K.Ord.cmp e pair l) c.in-Inserted.is can in
-    let told = rw c.unwrap-removed.ensures at c.remove_entry.ensures.ok in
-    told.1 ∙ inserted_undone g.met.S.K.Ord.total l up pair c.in-Inserted.k is c.args.self.now.contents put
+    let reported = rw c.unwrap-removed.ensures at c.remove_entry.ensures.ok in
+    reported.1 ∙ inserted_undone g.met.S.K.Ord.total l up pair c.in-Inserted.k is c.args.self.now.contents put
 
 pub returns-in-Replaced-clause-pair : goal.returns-in-Replaced-clause-pair
 returns-in-Replaced-clause-pair g c = λ pair l up can put.

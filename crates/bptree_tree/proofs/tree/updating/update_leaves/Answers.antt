@@ -1,6 +1,6 @@
 use Rattle.std.proofs.Common.{◌≡◌, ◌∙◌, ap, arith, length, refl, subst, sym, IsSome}
 use Rattle.bptree_keys.specs.declared.node_id.LeafNodeId.{LeafNodeId}
-use Rattle.bptree_shape.specs.Shape.{leaf_pairs}
+use Rattle.bptree_invariant.specs.Shape.{leaf_pairs}
 use Rattle.bptree_tree.proofs.UpdateLemmas.{next_there, present_now, present_node, rises_here, same_leaf, walked_last, walked_leaf, walked_none, within_last, within_leaf}
 use Rattle.bptree_tree.proofs.tree.updating.update_leaves.Goals as goal
 

@@ -1,7 +1,7 @@
--- The values between the first place and the one at hand are changed.
+-- The values between the first position and the current one are changed.
 use Rattle.std.proofs.Common.{◌-◌, length}
 use Rattle.bptree_ranges.specs.Ranges.{ahead}
-use Rattle.bptree_shape.specs.Shape.{leaves_at}
+use Rattle.bptree_invariant.specs.Shape.{leaves_at}
 use Rattle.bptree_tree.proofs.UpdateLemmas.{Walked}
 use Rattle.bptree_tree.proofs.tree.updating.update_leaves.Given as goal
 

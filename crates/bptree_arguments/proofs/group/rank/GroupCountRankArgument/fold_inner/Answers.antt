@@ -1,5 +1,5 @@
 use Rattle.std.proofs.Common.{◌≡◌, ◌∙◌, arith, ap, length, refl, sym}
-use Rattle.bptree_arguments.specs.GroupAnswers.{carried}
+use Rattle.bptree_arguments.specs.GroupResults.{carried}
 use Rattle.std.proofs.lemmas.List.{nil_from_length}
 use Rattle.std.proofs.lemmas.Bool.{eqb-true, true≢false}
 use Rattle.std.proofs.lemmas.Result.{IfOk-from_err}
@@ -8,8 +8,8 @@ use Rattle.bptree_arguments.proofs.GroupSumLemmas.{all_over, none_over, over_ali
 use Rattle.bptree_arguments.proofs.group.rank.GroupCountRankArgument.fold_inner.Goals as goal
 
 pub returns-then-is_empty-clause-carries : goal.returns-then-is_empty-clause-carries
-returns-then-is_empty-clause-carries g c = λ before pieces nonempty summaries ascending below fits stands.
-    rw (no_child _ c.args.arguments.now pieces summaries (eqb-true (length c.args.arguments.now) 0 (sym c.if-is_empty.ensures)) before) stands
+returns-then-is_empty-clause-carries g c = λ before pieces nonempty summaries ascending below fits stored.
+    rw (no_child _ c.args.arguments.now pieces summaries (eqb-true (length c.args.arguments.now) 0 (sym c.if-is_empty.ensures)) before) stored
 
 pub returns-then-is_empty-clause-unchanged : goal.returns-then-is_empty-clause-unchanged
 returns-then-is_empty-clause-unchanged g c = λ none. refl
@@ -43,13 +43,13 @@ loop-i-preserved g c = record {
 }
 
 pub returns-in_default-clause-carries : goal.returns-in_default-clause-carries
-returns-in_default-clause-carries g c = λ before pieces nonempty summaries ascending below fits stands.
+returns-in_default-clause-carries g c = λ before pieces nonempty summaries ascending below fits stored.
     stopped g.K.Ord.cmp g.G.Ord.cmp g.G.FromRef.group_of g.met.G.FromRef.keeps_order g.met.G.Ord.total c.args.k.now c.in_ok-group.group c.in_ok-group.ensures c.args.arguments.now pieces summaries c.loop-i.i c.loop-i.count (c.loop-i.invariant.counted pieces summaries) c.loop-i-test.true c.loop-i.auto.i c.index-arguments-i.result c.index-arguments-i.is c.in-Some.greatest.now c.in-Some.size c.in-Some.ensures.greatest c.cmp.result c.cmp.ensures c.in_default.not-Equal before ascending below fits
 
 pub returns-clause-carries : goal.returns-clause-carries
-returns-clause-carries g c = λ before pieces nonempty summaries ascending below fits stands.
+returns-clause-carries g c = λ before pieces nonempty summaries ascending below fits stored.
     rw c.saturating_add-count-2.ensures
-    (all_counted g.K.Ord.cmp g.G.Ord.cmp g.G.FromRef.group_of g.met.G.FromRef.keeps_order g.met.G.Ord.total c.args.k.now c.in_ok-group.group c.in_ok-group.ensures c.args.arguments.now pieces summaries c.loop-i.i c.loop-i.count (c.loop-i.invariant.counted pieces summaries) c.args.rank c.carried_for.result before c.loop-i-test.false fits stands (rw c.loop-i.invariant.same at c.carried_for.ensures))
+    (all_counted g.K.Ord.cmp g.G.Ord.cmp g.G.FromRef.group_of g.met.G.FromRef.keeps_order g.met.G.Ord.total c.args.k.now c.in_ok-group.group c.in_ok-group.ensures c.args.arguments.now pieces summaries c.loop-i.i c.loop-i.count (c.loop-i.invariant.counted pieces summaries) c.args.rank c.carried_for.result before c.loop-i-test.false fits stored (rw c.loop-i.invariant.same at c.carried_for.ensures))
 
 pub returns-then-is_empty-clause-capped : goal.returns-then-is_empty-clause-capped
 returns-then-is_empty-clause-capped g c = λ some. absurd (some (nil_from_length c.args.arguments.now (eqb-true (length c.args.arguments.now) 0 (sym c.if-is_empty.ensures))))

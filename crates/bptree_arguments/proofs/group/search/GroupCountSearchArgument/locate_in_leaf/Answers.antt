@@ -6,12 +6,12 @@ use Rattle.bptree_arguments.proofs.group.search.GroupCountSearchArgument.locate_
 
 pub returns-then-is_eq-clause-selected : goal.returns-then-is_eq-clause-selected
 returns-then-is_eq-clause-selected g c = λ ascending.
-    leaf_item g.K.Ord.cmp g.G.Ord.cmp g.G.FromRef.group_of g.met.G.FromRef.keeps_order g.met.G.Ord.total c.args.query.0 c.args.keys.now ascending c.in_ok-start.start (c.in_ok-start.ensures.border ascending) c.args.query.1 c.if-offset-keys.true c.index-keys-place.result c.index-keys-place.is c.in_ok-of_key.of_key c.in_ok-of_key.ensures c.cmp.result c.cmp.ensures c.is_eq.result c.is_eq.ensures c.if-is_eq.true
+    leaf_item g.K.Ord.cmp g.G.Ord.cmp g.G.FromRef.group_of g.met.G.FromRef.keeps_order g.met.G.Ord.total c.args.query.0 c.args.keys.now ascending c.in_ok-start.start (c.in_ok-start.ensures.border ascending) c.args.query.1 c.if-offset-keys.true c.index-keys-index.result c.index-keys-index.is c.in_ok-of_key.of_key c.in_ok-of_key.ensures c.cmp.result c.cmp.ensures c.is_eq.result c.is_eq.ensures c.if-is_eq.true
 
 pub returns-clause-selected : goal.returns-clause-selected
 returns-clause-selected g c = λ ascending.
     elim c.if-offset-keys.branch [
-      | then-offset-keys+in_ok-of_key+else-is_eq w ↦ leaf_other g.K.Ord.cmp g.G.Ord.cmp g.G.FromRef.group_of g.met.G.FromRef.keeps_order g.met.G.Ord.total c.args.query.0 c.args.keys.now ascending c.in_ok-start.start (c.in_ok-start.ensures.border ascending) c.args.query.1 w.if-offset-keys.true w.index-keys-place.result w.index-keys-place.is w.in_ok-of_key.of_key w.in_ok-of_key.ensures w.cmp.result w.cmp.ensures w.is_eq.result w.is_eq.ensures w.if-is_eq.false
+      | then-offset-keys+in_ok-of_key+else-is_eq w ↦ leaf_other g.K.Ord.cmp g.G.Ord.cmp g.G.FromRef.group_of g.met.G.FromRef.keeps_order g.met.G.Ord.total c.args.query.0 c.args.keys.now ascending c.in_ok-start.start (c.in_ok-start.ensures.border ascending) c.args.query.1 w.if-offset-keys.true w.index-keys-index.result w.index-keys-index.is w.in_ok-of_key.of_key w.in_ok-of_key.ensures w.cmp.result w.cmp.ensures w.is_eq.result w.is_eq.ensures w.if-is_eq.false
       | else-offset-keys w ↦ leaf_past g.K.Ord.cmp g.G.Ord.cmp g.G.FromRef.group_of g.met.G.FromRef.keeps_order g.met.G.Ord.total c.args.query.0 c.args.keys.now ascending c.in_ok-start.start (c.in_ok-start.ensures.border ascending) c.args.query.1 w.if-offset-keys.false
     ]
 

@@ -1,7 +1,7 @@
 use Rattle.std.proofs.Common.{Some, arith, ap, ◌∙◌}
 use Rattle.std.proofs.lemmas.List.{length-map, take_all}
 use Rattle.std.specs.Map.{keys_of}
-use Rattle.bptree_arguments.specs.Visits.{answered, key_pieces}
+use Rattle.bptree_arguments.specs.Visits.{returned, key_pieces}
 use Rattle.bptree_arguments.proofs.VisitLemmas.{keys_of-flatten, piece_at-keys}
 use Rattle.bptree_keys.proofs.PieceLemmas.{AllZip-length}
 use Rattle.bptree_examples.specs.Dates.{IsStatistic}
@@ -13,14 +13,14 @@ pub returns-then-first-year : goal.returns-then-first-year
 returns-then-first-year g c = record {
   step = λ pieces are summaries wide.
       let parts = key_pieces pieces in
-      rw keys_of-flatten (ap (λ n. answered (Some n)) (over c.args.self.now.year c.args.self.now.counted c.loop-i.counted parts are c.args.arguments.now summaries c.loop-i.i c.loop-i-test.true _ (c.loop-i.invariant.sum parts are summaries) c.if-first-year.true));
+      rw keys_of-flatten (ap (λ n. returned (Some n)) (over c.args.self.now.year c.args.self.now.counted c.loop-i.counted parts are c.args.arguments.now summaries c.loop-i.i c.loop-i-test.true _ (c.loop-i.invariant.sum parts are summaries) c.if-first-year.true));
 }
 
 pub returns-then-first-year-2 : goal.returns-then-first-year-2
 returns-then-first-year-2 g c = record {
   step = λ pieces are summaries wide.
       let parts = key_pieces pieces in
-      rw keys_of-flatten (ap (λ n. answered (Some n)) (c.saturating_add-counted-then-first-year-2.ensures ∙ begins_in c.args.self.now.year c.args.self.now.counted c.loop-i.counted parts are c.args.arguments.now summaries c.loop-i.i c.loop-i-test.true _ (c.loop-i.invariant.sum parts are summaries) c.if-last-year-2.true c.if-first-year-2.true));
+      rw keys_of-flatten (ap (λ n. returned (Some n)) (c.saturating_add-counted-then-first-year-2.ensures ∙ begins_in c.args.self.now.year c.args.self.now.counted c.loop-i.counted parts are c.args.arguments.now summaries c.loop-i.i c.loop-i-test.true _ (c.loop-i.invariant.sum parts are summaries) c.if-last-year-2.true c.if-first-year-2.true));
 }
 
 pub returns-then-last-year-2 : goal.returns-then-last-year-2
@@ -28,7 +28,7 @@ returns-then-last-year-2 g c = record {
   step = λ pieces are summaries wide.
       let parts = key_pieces pieces in
       let down = within c.args.self.now.year c.args.self.now.counted c.loop-i.counted parts are c.args.arguments.now summaries c.loop-i.i c.loop-i-test.true _ (c.loop-i.invariant.sum parts are summaries) c.if-last-year-2.true in (
-        λ l answer e. rw keys_of-flatten ((rw (c.loop-i.invariant.same, ← piece_at-keys pieces c.loop-i.i) at e) ∙ ap (λ n. answered (Some n)) down),
+        λ l outcome e. rw keys_of-flatten ((rw (c.loop-i.invariant.same, ← piece_at-keys pieces c.loop-i.i) at e) ∙ ap (λ n. returned (Some n)) down),
         λ past. absurd (omega (arith, past, c.loop-i-test.true, AllZip-length IsStatistic c.args.arguments.now parts summaries, length-map pieces (λ p. keys_of p))),
       );
 }
@@ -56,5 +56,5 @@ returns g c = record {
   step = λ pieces are summaries wide.
       let parts = key_pieces pieces in
       let all = take_all c.loop-i.i parts (omega (arith, c.loop-i-test.false, AllZip-length IsStatistic c.args.arguments.now parts summaries)) in
-      rw keys_of-flatten (ap (λ n. answered (Some n)) (rw all at (c.loop-i.invariant.sum parts are summaries)));
+      rw keys_of-flatten (ap (λ n. returned (Some n)) (rw all at (c.loop-i.invariant.sum parts are summaries)));
 }

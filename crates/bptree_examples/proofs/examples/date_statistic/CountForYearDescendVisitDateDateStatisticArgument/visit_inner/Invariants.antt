@@ -6,7 +6,7 @@ use Rattle.bptree_examples.specs.Dates.{in_year, IsStatistic}
 use Rattle.bptree_examples.proofs.DateOrder.{date_order}
 use Rattle.bptree_examples.proofs.examples.date_statistic.CountForYearDescendVisitDateDateStatisticArgument.visit_inner.Given as goal
 
--- the visitor is as it was, and the count so far is that of the pieces so far
+-- The visitor is unchanged, and the count so far is that of the pieces so far.
 abbrev pub invariant-loop-i : goal.invariant-loop-i
 invariant-loop-i g l = record {
   same : l.self ≡ l.fn.self;

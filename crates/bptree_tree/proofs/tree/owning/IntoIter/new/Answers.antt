@@ -1,8 +1,8 @@
 use Rattle.std.proofs.Common.{◌≡◌, length, None, ap, ◌∙◌, append-nil}
 use Rattle.std.proofs.iter.runs.Sources.{as_is, as_is_back, from_back, from_front}
 use Rattle.std.specs.Map.Iter.{TakesFirst, TakesLast}
-use Rattle.bptree_shape.specs.Shape.{root_least, pairs_at}
-use Rattle.bptree_shape.proofs.Walk.{tree_ascends}
+use Rattle.bptree_invariant.specs.Shape.{root_least, pairs_at}
+use Rattle.bptree_invariant.proofs.Walk.{tree_ascends}
 use Rattle.bptree_tree.proofs.ChainLemmas.{tree_left}
 use Rattle.bptree_tree.proofs.tree.owning.IntoIter.new.Goals as goal
 

@@ -1,4 +1,4 @@
-use Rattle.bptree_descents.proofs.Summed.{known_subtree}
+use Rattle.bptree_search.proofs.Summed.{known_subtree}
 use Rattle.bptree_tree.proofs.tree.queries.BPlusTree+NodeStoreVec+K+V+Count.range_len.Goals as goal
 
 pub len_between-requires : goal.len_between-requires

@@ -1,0 +1,13 @@
+use Rattle.std.proofs.Common.{◌-◌, ◌≤◌, length, zip}
+use Rattle.bptree_batches.specs.Slots.{IsSpanOf}
+use Rattle.bptree_batches.specs.Ways.{AllSplit}
+use Rattle.bptree_batches.proofs.leaves.begin_group.Given as goal
+
+abbrev pub invariant-keys : goal.invariant-keys
+invariant-keys g l = record {
+  within : l.at ≤ length l.keys;
+  spans : AllSplit (IsSpanOf g.S.K.Ord.cmp (g.S.NodeStore.slots l.store) 64) (λ at span. Unit {0}) l.at (zip l.nodes l.keys) l.spans;
+}
+
+abbrev pub decreases-keys : goal.decreases-keys
+decreases-keys g l = length l.keys - l.at

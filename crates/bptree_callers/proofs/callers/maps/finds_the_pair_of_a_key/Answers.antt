@@ -1,8 +1,0 @@
-use Rattle.bptree_callers.proofs.EntryLemmas.{found_key, found_place}
-use Rattle.bptree_callers.proofs.callers.maps.finds_the_pair_of_a_key.Goals as goal
-
-pub returns-clause-key : goal.returns-clause-key
-returns-clause-key g c = found_key g.K.Ord.cmp c.args.k.now c.args.map.now c.get_key_value.result c.get_key_value.ensures
-
-pub returns-clause-stored : goal.returns-clause-stored
-returns-clause-stored g c = found_place g.K.Ord.cmp c.args.k.now c.args.map.now c.get_key_value.result c.get_key_value.ensures

@@ -1,6 +1,0 @@
-use Rattle.std.proofs.lemmas.Result.{IfOk-weaker}
-use Rattle.bptree_callers.proofs.EntryLemmas.{last_of_two}
-use Rattle.bptree_callers.proofs.callers.maps.pops_the_last_of_two.Goals as goal
-
-pub returns-clause-popped : goal.returns-clause-popped
-returns-clause-popped g c = IfOk-weaker c.pop_last.result _ _ (λ gone taken. λ a b is. last_of_two a b _ gone (rw is at taken)) c.pop_last.ensures.stored

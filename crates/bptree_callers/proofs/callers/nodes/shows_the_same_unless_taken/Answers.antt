@@ -1,5 +1,0 @@
-use Rattle.bptree_callers.proofs.Shown.{shows_the_same}
-use Rattle.bptree_callers.proofs.callers.nodes.shows_the_same_unless_taken.Goals as goal
-
-pub returns : goal.returns
-returns g c = λ refused. shows_the_same g.S.NodeStore.slots c.args.leaf.0 c.args.tree.now c.is_taken-done.new.tree _ _ c.shows-before.ensures c.shows.ensures (c.is_taken-done.ensures refused)

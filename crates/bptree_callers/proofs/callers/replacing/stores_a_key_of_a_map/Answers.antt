@@ -1,5 +1,0 @@
-use Rattle.bptree_callers.proofs.ReplacedLemmas.{stores}
-use Rattle.bptree_callers.proofs.callers.replacing.stores_a_key_of_a_map.Goals as goal
-
-pub returns-in-Ok-clause-stored : goal.returns-in-Ok-clause-stored
-returns-in-Ok-clause-stored g c true' = stores g.K.Ord.cmp c.args.k c.in-Ok.field-0 c.args.map.now c.replace_key.new.self c.in-Ok.ensures.ok g.met.K.Ord.total c.recall.ensures.ascending

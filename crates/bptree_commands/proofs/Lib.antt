@@ -1,0 +1,9 @@
+pub mod EndLemmas
+pub mod FeedLemmas
+pub mod HeldLemmas
+pub mod LineLemmas
+pub mod PairLemmas
+pub mod IndexLemmas
+pub mod RunLemmas
+pub mod SentLemmas
+pub mod SessionLemmas

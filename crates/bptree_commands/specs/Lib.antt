@@ -1,0 +1,9 @@
+pub mod ReplyLists
+pub mod Carried
+pub mod Clipped
+pub mod Ends
+pub mod Faults
+pub mod Lines
+pub mod Sent
+pub mod Served
+pub mod Steps

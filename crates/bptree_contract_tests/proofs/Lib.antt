@@ -1,0 +1,17 @@
+pub mod ReturnsAt
+pub mod BothEnds
+pub mod CloneSizes
+pub mod EntryLemmas
+pub mod ExtendLemmas
+pub mod GatherLemmas
+pub mod GatheredPuts
+pub mod PartLemmas
+pub mod Passing
+pub mod RetainedLemmas
+pub mod SetLemmas
+pub mod Shown
+pub mod Sizes
+pub mod SplitAtKey
+pub mod ThinLemmas
+pub mod UpdateLemmas
+pub mod ReplacedLemmas

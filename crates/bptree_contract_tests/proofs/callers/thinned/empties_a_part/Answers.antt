@@ -1,0 +1,12 @@
+use Rattle.std.proofs.Common.{◌∙◌, Some, ap}
+use Rattle.std.proofs.lemmas.Result.{IfOk-weaker}
+use Rattle.bptree_keys.specs.Contents.{has}
+use Rattle.bptree_keys.specs.Ranges.{between}
+use Rattle.bptree_contract_tests.proofs.ThinLemmas.{end_stays, none_between}
+use Rattle.bptree_contract_tests.proofs.callers.thinned.empties_a_part.Goals as goal
+
+pub returns-clause-between : goal.returns-clause-between
+returns-clause-between g c = IfOk-weaker c.remove_range.result _ _ (λ n is. ap (λ l. between g.K.Ord.cmp l (Some c.args.lo.now) (Some c.args.hi.now)) is ∙ none_between g.K.Ord.cmp c.args.map.now c.args.lo.now c.args.hi.now) c.remove_range.ensures.rest
+
+pub returns-clause-end : goal.returns-clause-end
+returns-clause-end g c = IfOk-weaker c.remove_range.result _ _ (λ n is. ap (λ l. has g.K.Ord.cmp l c.args.hi.now) is ∙ end_stays g.K.Ord.cmp c.args.map.now c.args.lo.now c.args.hi.now) c.remove_range.ensures.rest

@@ -1,0 +1,5 @@
+use Rattle.std.proofs.Common.{◌∙◌, ap, length}
+use Rattle.bptree_contract_tests.proofs.callers.updates.counts_the_keys_in_a_range.Goals as goal
+
+pub returns : goal.returns
+returns g c = c.len.ensures.value ∙ ap length (c.range_within.ensures.rest tt)

@@ -1,4 +1,0 @@
-use Rattle.bptree_descents.proofs.by_argument.+find_path_below.Given as goal
-
-abbrev pub decreases-find_path_below : goal.decreases-find_path_below
-decreases-find_path_below g l = l.height

@@ -1,7 +1,0 @@
-use Rattle.std.proofs.Common.{refl}
-use Rattle.bptree_loading.specs.Dedup.{last_of_each_run}
-use Rattle.bptree_loading.proofs.GivenLemmas.{all_given}
-use Rattle.bptree_loading.proofs.dedup.DedupByExt.dedup_keep_last.Goals as goal
-
-pub returns-clause-items : goal.returns-clause-items
-returns-clause-items g c = λ test xs acts given. record { always = all_given g.Self.Iterator.next_gives g.F.FnMut test (last_of_each_run test xs) _ xs (record { source = given.always; calls = acts }) refl }

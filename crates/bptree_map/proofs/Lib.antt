@@ -1,0 +1,9 @@
+pub mod AddingLemmas
+pub mod ExtendingLemmas
+pub mod KeyLemmas
+pub mod ManyLemmas
+pub mod MovingLemmas
+pub mod IndexLemmas
+pub mod PopLemmas
+pub mod RetainLemmas
+pub mod UpsertLemmas

@@ -1,0 +1,133 @@
+-- A closure is called for each member of a list, and those that stay come one behind the other.
+use Rattle.std.proofs.Common.{◌≡◌, ◌∙◌, refl, sym, ap, suc, Bool, true, false, Option, List, [], ◌∷◌, ◌++◌, append_assoc, append-nil}
+use Rattle.std.specs.Borrow.{Bor, MutBor}
+use Rattle.std.specs.Fn.{Called, Mut}
+use Rattle.std.specs.declared.cmp.Ordering.{Ordering}
+use Rattle.std.specs.declared.cmp.Ordering.TheVariants.{Less}
+use Rattle.std.specs.Cmp.{IsTotalOrder}
+use Rattle.std.specs.List.Retain.{IsFiltered, RetainsInTurn}
+use Rattle.std.specs.List.Sorted.{IsStrictlySortedBy}
+use Rattle.std.specs.Map.{keys_of}
+use Rattle.std.proofs.lemmas.Cmp.{tied_itself}
+use Rattle.std.proofs.lemmas.Map.Keys.{sorted_head, sorted_tail}
+use Rattle.bptree_keys.specs.Contents.{IsAscending, put}
+use Rattle.bptree_keys.proofs.Ascending.{all_before, all_after, all_joined, ascending_cons, ascending_with_value, equal_parts}
+use Rattle.bptree_keys.proofs.Parted.{put_gap}
+use Rattle.bptree_keys.specs.Ranges.{between}
+use Rattle.bptree_map.specs.Keys.{with_key}
+use Rattle.bptree_map.specs.Retaining.{CallsAtPair, IsRetained, IsRetainedUpTo}
+use Rattle.bptree_map.proofs.KeyLemmas.{keys_between-is, keys_outside-is, keys_put}
+use Rattle.bptree_map.proofs.KeyLemmas.{keys_append}
+
+module _ {K V : Type 0} {cmp : K → K → Ordering} (total : IsTotalOrder cmp) where
+  -- an ascending list without a pair ascends
+  pub ascending_without : (before : List (K × V)) (pair : K × V) (after : List (K × V)) → IsAscending cmp (before ++ pair ∷ after) → IsAscending cmp (before ++ after)
+  ascending_without [] pair after ascending = sorted_tail cmp pair.0 (keys_of after) ascending
+  ascending_without (p ∷ before) pair after ascending =
+      let above = sorted_head cmp p.0 (keys_of (before ++ pair ∷ after)) ascending in
+      let Above : K → Type 0 = λ key. cmp p.0 key ≡ Less in
+      let rest = ascending_without before pair after (sorted_tail cmp p.0 (keys_of (before ++ pair ∷ after)) ascending) in
+      ascending_cons cmp p.0 (keys_of (before ++ after)) (all_joined Above before after (all_before Above before (pair ∷ after) above) (all_after Above before (pair ∷ after) above).1) rest
+
+  -- the next pair is put behind those that stay
+  pub put_behind : (kept : List (K × V)) (pair : K × V) (rest : List (K × V)) → IsAscending cmp (kept ++ pair ∷ rest) → (v : V) → put cmp kept pair.0 v ≡ kept ++ (pair.0, v) ∷ []
+  put_behind kept pair rest ascending v =
+      let hit = equal_parts cmp total kept pair rest pair.0 ascending (tied_itself total pair.0) in
+      put_gap cmp kept kept [] pair.0 (record { parts = sym (append-nil kept); smaller = hit.smaller; greater = tt }) v
+
+  pub still_ascending : (kept : List (K × V)) (pair : K × V) (rest : List (K × V)) → IsAscending cmp (kept ++ pair ∷ rest) → (v : V) → IsAscending cmp ((kept ++ (pair.0, v) ∷ []) ++ rest)
+  still_ascending kept pair rest ascending v = rw (append_assoc kept ((pair.0, v) ∷ []) rest) (ascending_with_value cmp kept pair v rest ascending)
+
+-- a closure was called for the members of a list in turn; some of them stay
+module _ {S X : Type 0} (Asked : S → List X → List X → Type 0) (f : S) (old : List X) where
+  -- the closure was called for the first members, and the calls for the others continue from there
+  abbrev pub AsksOn : S → List X → List X → Type 0
+  AsksOn t kept rest = (first : List X) × (old ≡ first ++ rest) × ((more stay : List X) → Asked t more stay → Asked f (first ++ more) (kept ++ stay))
+
+  pub none_asked : AsksOn f [] old
+  none_asked = ([], refl, λ more stay r. r)
+
+  module _ (t : S) (kept : List X) (x : X) (rest : List X) (goes : AsksOn t kept (x ∷ rest)) (u : S) where
+    pub one_stays : (y : X) → ((more stay : List X) → Asked u more stay → Asked t (x ∷ more) (y ∷ stay)) → AsksOn u (kept ++ y ∷ []) rest
+    one_stays y step = (
+      goes.0 ++ x ∷ [],
+      goes.1 ∙ sym (append_assoc goes.0 (x ∷ []) rest),
+      λ more stay r. rw (append_assoc goes.0 (x ∷ []) more, append_assoc kept (y ∷ []) stay) (goes.2 (x ∷ more) (y ∷ stay) (step more stay r)),
+    )
+
+    pub one_leaves : ((more stay : List X) → Asked u more stay → Asked t (x ∷ more) stay) → AsksOn u kept rest
+    one_leaves step = (
+      goes.0 ++ x ∷ [],
+      goes.1 ∙ sym (append_assoc goes.0 (x ∷ []) rest),
+      λ more stay r. rw (append_assoc goes.0 (x ∷ []) more) (goes.2 (x ∷ more) stay (step more stay r)),
+    )
+
+  pub all_asked : (t : S) (kept rest : List X) → AsksOn t kept rest → rest ≡ [] → Asked t [] [] → Asked f old kept
+  all_asked t kept rest goes none over =
+      let is : old ≡ goes.0 ++ [] = goes.1 ∙ ap (λ l. goes.0 ++ l) none in
+      let all = goes.2 [] [] over in
+      rw is (rw (append-nil kept) at all)
+
+module _ {S X : Type 0} (R : S → X → Bool → S → X → Type 0) (t : S) (x : X) (u : S) (y : X) where
+  pub retains_one : R t x true u y → (more stay : List X) → RetainsInTurn R u more stay → RetainsInTurn R t (x ∷ more) (y ∷ stay)
+  retains_one call more stay r = (true, u, y, call, stay, r, refl)
+
+  pub retains_none : R t x false u y → (more stay : List X) → RetainsInTurn R u more stay → RetainsInTurn R t (x ∷ more) stay
+  retains_none call more stay r = (false, u, y, call, stay, r, refl)
+
+-- a closure is called for the next of the pairs
+module _ {F K V : Type 0} (calls : Mut F (Bor K × (MutBor V × Unit {0})) (Bool × (MutBor V × Unit {0}))) where
+  pub called_at : {t u : F} {key : Bor K} {value borrowed : MutBor V} {stays : Bool} → Called calls t (key, (value, tt)) (stays, (borrowed, tt)) u → CallsAtPair calls t (key.now, value.now) stays u (key.now, borrowed.now)
+  called_at called = (refl, record { key = _; value = _; shows = (refl, refl); left = _; called = called; leaves = refl })
+
+  module _ (f : F) (old : List (K × V)) (t : F) (kept left : List (K × V)) (asked : AsksOn (IsRetained calls) f old t kept left) (pair : K × V) (rest : List (K × V)) (next : left ≡ pair ∷ rest) (u : F) (after : K × V) where
+    -- the pair stays and is stored, or it stays and is not stored, or it is removed
+    pub pair_stays : CallsAtPair calls t pair true u after → AsksOn (IsRetained calls) f old u (kept ++ after ∷ []) rest
+    pair_stays call = one_stays (IsRetained calls) f old t kept pair rest (rw next at asked) u after (retains_one (CallsAtPair calls) t pair u after call)
+
+    pub pair_read : CallsAtPair calls t pair true u after → IsRetainedUpTo calls f old kept after rest
+    pair_read call =
+        let goes = rw next at asked in
+        (goes.0, pair, goes.1, goes.2 (pair ∷ []) (after ∷ []) (retains_one (CallsAtPair calls) t pair u after call [] [] refl))
+
+    pub pair_leaves : CallsAtPair calls t pair false u after → AsksOn (IsRetained calls) f old u kept rest
+    pair_leaves call = one_leaves (IsRetained calls) f old t kept pair rest (rw next at asked) u (retains_none (CallsAtPair calls) t pair u after call)
+
+module _ {P X : Type 0} (R : P → X → Bool → P → Type 0) where
+  pub filters_nothing : (p : P) → IsFiltered R p [] []
+  filters_nothing p = ([], p, refl, refl, refl)
+
+  module _ (p : P) (x : X) (q : P) where
+    pub filters_one : R p x true q → (more stay : List X) → IsFiltered R q more stay → IsFiltered R p (x ∷ more) (x ∷ stay)
+    filters_one call more stay r = (true ∷ r.0, r.1, ap suc r.2, (q, call, r.3), ap (λ l. x ∷ l) r.4)
+
+    pub filters_none : R p x false q → (more stay : List X) → IsFiltered R q more stay → IsFiltered R p (x ∷ more) stay
+    filters_none call more stay r = (false ∷ r.0, r.1, ap suc r.2, (q, call, r.3), r.4)
+
+-- the keys of a set, as pairs
+abbrev as_pairs : {K : Type 0} → List K → List (K × Unit {0})
+as_pairs [] = []
+as_pairs (k ∷ keys) = (k, tt) ∷ as_pairs keys
+
+keys_back : {K : Type 0} (keys : List K) → keys_of (as_pairs keys) ≡ keys
+keys_back [] = refl
+keys_back (k ∷ keys) = ap (λ rest. k ∷ rest) (keys_back keys)
+
+module _ {K : Type 0} {cmp : K → K → Ordering} (total : IsTotalOrder cmp) (kept : List K) (k : K) (rest : List K) (sorted : IsStrictlySortedBy cmp (kept ++ k ∷ rest)) where
+  ascending : IsAscending cmp (as_pairs kept ++ (k, tt) ∷ as_pairs rest)
+  ascending = rw (keys_append (as_pairs kept) ((k, tt) ∷ as_pairs rest), keys_back kept, keys_back rest) sorted
+
+  -- the next key is put behind those that stay
+  pub key_behind : with_key cmp kept k ≡ kept ++ k ∷ []
+  key_behind =
+      let put = put_behind total (as_pairs kept) (k, tt) (as_pairs rest) ascending tt in
+      let keys = sym (keys_put cmp (as_pairs kept) k tt) ∙ ap keys_of put ∙ keys_append (as_pairs kept) ((k, tt) ∷ []) in
+      rw (keys_back kept) at keys
+
+  pub keys_still_sorted : IsStrictlySortedBy cmp ((kept ++ k ∷ []) ++ rest)
+  keys_still_sorted = rw (append_assoc kept (k ∷ []) rest) sorted
+
+  pub keys_without : IsStrictlySortedBy cmp (kept ++ rest)
+  keys_without =
+      let left = ascending_without total (as_pairs kept) (k, tt) (as_pairs rest) ascending in
+      rw (keys_append (as_pairs kept) (as_pairs rest), keys_back kept, keys_back rest) at left

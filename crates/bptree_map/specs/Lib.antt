@@ -1,0 +1,17 @@
+pub mod Comparing
+pub mod Gathering
+pub mod Hints
+pub mod KeyBounds
+pub mod KeyChanges
+pub mod Keys
+pub mod Many
+pub mod ManyKeys
+pub mod Moving
+pub mod Indexes
+pub mod Popping
+pub mod RetainedKeys
+pub mod Retaining
+pub mod Rows
+pub mod Splitting
+pub mod Updates
+pub mod Writing

@@ -1,0 +1,73 @@
+//! The pairs of a map that a closure keeps, and those outside a range.
+ghost use Rattle.std.specs.Prelude.{◌≡◌, length, IfErr, IfOk, OnErr, OnOk};
+ghost use Rattle.bptree_propagation.specs.Failing.{OkIs};
+ghost use Rattle.bptree_map.specs.Retaining.{IsRetained, FailsRetain};
+ghost use Rattle.bptree_tree.specs.RangeRemoval.{outside, KeepsAllIfNone, KeepsOutside};
+ghost use Rattle.bptree_tree.specs.Entries.{pairs_between};
+
+use super::{BPlusTreeMap, IntoIter};
+use crate::failures::RetainError;
+use crate::retaining::retain_in_tree;
+use bptree_arguments::argument::Argument;
+use bptree_keys::key::Key;
+use bptree_stores::node_store_vec::NodeStoreVec;
+use bptree_tree::tree;
+use std::alloc::AllocError;
+
+// An error of `retain` with the pairs that are left as a map's.
+fn of_map<K: Key, V: Drop, A: Argument<K>>(
+    refusal: RetainError<(K, V), tree::IntoIter<NodeStoreVec<K, V, A>>>,
+) -> RetainError<(K, V), IntoIter<K, V, A>>
+    ensures { result ≡ refusal }
+{
+    match refusal {
+        RetainError::NotMade => RetainError::NotMade,
+        RetainError::NotStored(pair, rest) => RetainError::NotStored(pair, IntoIter::new(rest)),
+    }
+}
+
+impl<K: Key, V: Drop, A: Argument<K>> BPlusTreeMap<K, V, A> {
+    /// Keeps the pairs for which a closure returns true, in the order of their keys, with the
+    /// values that it leaves, and drops the others.
+    ///
+    /// O(n log n) at most; the pairs that stay are inserted in their order into a new map. It fails
+    /// only if an allocation, a clone of a key or a summary fails. If the first allocation fails,
+    /// the map is unchanged. Otherwise the error returns the pair that was not inserted and the
+    /// pairs for which the closure was not called, and the map has those before them that stay.
+    pub fn retain<F: FnMut(&K, &mut V) -> bool>(
+        &mut self,
+        f: F,
+    ) -> Result<(), RetainError<(K, V), IntoIter<K, V, A>>>
+        requires { F.IsAlwaysCallable f }
+        ensures ok { OnOk result (IsRetained F.FnMut f self.old self.new) }
+        ensures err { IfErr result (FailsRetain F.FnMut f self.old self.new) }
+    {
+        match retain_in_tree(&mut self.inner, f) {
+            Ok(()) => Ok(()),
+            Err(refusal) => Err(of_map(refusal)),
+        }
+    }
+
+    /// Removes the pairs whose key is not below `lo` and is below `hi`, if they are given, and
+    /// returns their number. If it fails, nothing changes.
+    ///
+    /// O(log n) comparisons to find both ends, O(n / 32) for n pairs, and O(1) for each pair that
+    /// is removed: each leaf on either side stays as it is, except for a few at the gap. Before
+    /// that it allocates the nodes above the leaves, clones the first key of each leaf and computes
+    /// a summary of its keys, and it fails if one of these does. If no removal can fail, as
+    /// `clones_never_fail` and `never_fails` say, it does not fail: it removes the pairs one by one
+    /// if at most n / 32 are removed or if an allocation fails. If there is no such pair, it
+    /// allocates nothing and cannot fail. If all pairs are removed, it allocates one leaf.
+    pub fn remove_range<'b>(
+        &mut self,
+        lo: Option<&'b K>,
+        hi: Option<&'b K>,
+    ) -> Result<usize, AllocError>
+        ensures rest { IfOk result (λ _. KeepsOutside K.cmp lo.entry hi.entry self.old self.new) }
+        ensures count { OkIs result (length (pairs_between K.cmp self.old lo.entry hi.entry)) }
+        ensures empty { KeepsAllIfNone K.cmp lo.entry hi.entry self.old self.new result }
+        ensures unchanged { OnErr result (self.new ≡ self.old) }
+    {
+        self.inner.remove_range(lo, hi)
+    }
+}

@@ -1,9 +1,0 @@
-pub mod AddingLemmas
-pub mod ExtendingLemmas
-pub mod KeyLemmas
-pub mod ManyLemmas
-pub mod MovingLemmas
-pub mod PlaceLemmas
-pub mod PopLemmas
-pub mod RetainLemmas
-pub mod UpsertLemmas

@@ -1,6 +1,0 @@
-use Rattle.std.proofs.Common.{◌∙◌, ap₂}
-use Rattle.bptree_ranges.specs.Bounds.{between_bounds}
-use Rattle.bptree_maps.proofs.map.BPlusTreeMap.range_within.Goals as goal
-
-pub returns-clause-rest : goal.returns-clause-rest
-returns-clause-rest g c = λ told. c.range_bounds.ensures.rest ∙ ap₂ (between_bounds g.K.Ord.cmp c.args.self.now) (c.start_bound.ensures told) (c.end_bound.ensures told)

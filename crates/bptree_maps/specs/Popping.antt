@@ -1,9 +1,0 @@
--- The first pair leaves a map.
-use Rattle.std.specs.Prelude.{◌≡◌, List, [], ◌∷◌, Option, Some, None}
-use Rattle.std.specs.declared.cmp.Ordering.{Ordering}
-use Rattle.std.specs.declared.cmp.Ordering.TheVariants.{Equal}
-
--- there was none; or the first pair is gone, and was answered with a key that equals its key
-abbrev pub IsPopped : {K V : Type 0} → (K → K → Ordering) → List (K × V) → List (K × V) → Option (K × V) → Type 0
-IsPopped cmp old new None = (old ≡ []) × (new ≡ [])
-IsPopped {K} {V} cmp old new (Some pair) = (key : K) × (cmp key pair.0 ≡ Equal) × (old ≡ (key, pair.1) ∷ new)

@@ -1,0 +1,14 @@
+pub mod Alike
+pub mod AnySummary
+pub mod Climbing
+pub mod ClimbingTwo
+pub mod LeafClimb
+pub mod LeafEdit
+pub mod LeafIndexes
+pub mod Borrowed
+pub mod Lift
+pub mod NodeChanges
+pub mod Relinked
+pub mod Rooted
+pub mod SlotFacts
+pub mod Undone

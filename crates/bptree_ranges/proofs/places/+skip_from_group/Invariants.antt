@@ -1,4 +1,0 @@
-use Rattle.bptree_ranges.proofs.places.+skip_from_group.Given as goal
-
-abbrev pub decreases-skip_from_group : goal.decreases-skip_from_group
-decreases-skip_from_group g l = l.height

@@ -1,4 +1,0 @@
-use Rattle.bptree_script.proofs.walk.walk.Goals as goal
-
-pub returns-in-Ok : goal.returns-in-Ok
-returns-in-Ok g c = rw c.as_slice.ensures.value at c.in-Ok.ensures

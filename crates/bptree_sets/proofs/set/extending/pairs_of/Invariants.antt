@@ -1,7 +1,0 @@
--- The keys that came so far are those of the pairs.
-use Rattle.std.proofs.Common.{◌≡◌}
-use Rattle.std.specs.Map.{keys_of}
-use Rattle.bptree_sets.proofs.set.extending.pairs_of.Given as goal
-
-abbrev pub invariant-loop-k : goal.invariant-loop-k
-invariant-loop-k g l = keys_of l.pairs.items ≡ l.yielded

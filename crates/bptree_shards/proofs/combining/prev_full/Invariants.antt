@@ -1,9 +1,0 @@
-use Rattle.std.proofs.Common.{◌≤◌}
-use Rattle.bptree_shards.specs.Lengths.{AreEmpty}
-use Rattle.bptree_shards.proofs.combining.prev_full.Given as goal
-
-abbrev pub invariant-loop-shard : goal.invariant-loop-shard
-invariant-loop-shard l = record { in_range : l.shard ≤ l.fn.before; empty : AreEmpty l.lengths l.shard l.fn.before }
-
-abbrev pub decreases-loop-shard : goal.decreases-loop-shard
-decreases-loop-shard l = l.shard

@@ -1,0 +1,22 @@
+use Rattle.std.proofs.Common.{◌<◌, ◌^◌, [], ◌∷◌, ◌++◌, length, append-nil}
+use Rattle.std.specs.List.Sorted.{IsStrictlySortedBy}
+use Rattle.bptree_arguments.specs.Ranks.{AllBelow}
+use Rattle.bptree_arguments.proofs.RankLemmas.{IsSlotOf-in}
+use Rattle.bptree_unit_tests.proofs.callers.arguments.ranks_behind_one_leaf.Goals as goal
+
+pub fold_leaf-requires-clause-slot : goal.fold_leaf-requires-clause-slot
+fold_leaf-requires-clause-slot g c = IsSlotOf-in g.K.Ord.cmp c.args.k.now c.args.keys.now c.args.slot c.requires.placed
+
+pub returns-clause-ranked : goal.returns-clause-ranked
+returns-clause-ranked g c =
+    let k = c.args.k.now in
+    let before = c.args.before.now in
+    let keys = c.args.keys.now in
+    let sorted : IsStrictlySortedBy g.K.Ord.cmp (before ++ []) = rw (append-nil before) c.requires.before in
+    let below : AllBelow g.K.Ord.cmp k (before ++ []) = rw (append-nil before) c.requires.below in
+    let few : length (before ++ []) < 2 ^ 64 = rw (append-nil before) c.requires.before_fits in
+    let start = c.initial_value.ensures.stored k in
+    let stored = c.in_ok-rank.ensures.carries [] (before ∷ []) (c.requires.nonempty, tt) c.requires.summaries sorted below few start in
+    let all_sorted : IsStrictlySortedBy g.K.Ord.cmp (before ++ (keys ++ [])) = rw (append-nil keys) c.requires.ascending in
+    let all_fit : length (before ++ (keys ++ [])) < 2 ^ 64 = rw (append-nil keys) c.requires.fits in
+    rw (append-nil keys) at (c.in_ok-outcome.ensures.ranked c.requires.placed before [] all_sorted c.requires.below tt all_fit (rw (append-nil before) at stored))

@@ -1,5 +1,0 @@
-use Rattle.sweep_bptree_callers.proofs.Ends.{fault}
-use Rattle.sweep_bptree_callers.proofs.callers.gives_up_by_a_fault_alone.Goals as goal
-
-pub returns : goal.returns
-returns g c = λ is. fault _ _ _ _ c.requires.short c.requires.known (c.serve.ensures.io is)

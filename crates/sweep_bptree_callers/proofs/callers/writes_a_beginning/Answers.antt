@@ -1,5 +1,0 @@
-use Rattle.sweep_bptree_callers.proofs.Ends.{begun}
-use Rattle.sweep_bptree_callers.proofs.callers.writes_a_beginning.Goals as goal
-
-pub returns : goal.returns
-returns g c = begun c.serve.result _ _ _ _ c.serve.ensures.io c.serve.ensures.out_of_memory
