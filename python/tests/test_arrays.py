@@ -201,6 +201,29 @@ def check_arrays(test, map_, pairs, *bounds):
         test.assertRaises(of_values if isinstance(of_keys, str) else of_keys, map_.items_arrays, *bounds)
 
 
+class Large(unittest.TestCase):
+    """A map of more than 2**18 pairs, in which a batch searches 16 leaves step by step and reads keys ahead."""
+
+    def test_batches(self):
+        dice = random.Random(12)
+        numbers = array("Q", dice.sample(range(10**6), 300000))
+        map_ = SortedMap.from_arrays(numbers, array("q", range(len(numbers))))
+        model = {key: at for at, key in enumerate(numbers)}
+        ordered = sorted(model)
+        for n in (0, 1, 15, 16, 17, 20000):
+            given = array("Q", [dice.randrange(10**6) for _ in range(n)])
+            self.assertEqual(map_.get_many(given), [model.get(key) for key in given])
+            self.assertEqual(map_.rank_many(given).tolist(), [bisect.bisect_left(ordered, key) for key in given])
+        given = array("Q", [dice.randrange(10**6) for _ in range(20000)])
+        self.assertEqual(map_.del_many(given), len(model.keys() & given))
+        for key in given:
+            model.pop(key, None)
+        self.assertEqual(list(map_.items()), sorted(model.items()))
+        map_.put_many(given, array("q", range(len(given))))
+        model.update(zip(given, range(len(given))))
+        self.assertEqual(list(map_.items()), sorted(model.items()))
+
+
 class Ranges(unittest.TestCase):
     """Keys of one type of array in maps of the other."""
 

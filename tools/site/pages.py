@@ -10,7 +10,7 @@ TYPES = ("struct", "enum", "trait", "type")
 KINDS = {"struct": "Struct", "enum": "Enum", "trait": "Trait", "type": "Type alias", "fn": "Function", "const": "Constant"}
 FAILURE = re.compile(r"\b(fail|fails|failed|panics)\b")
 # Calls of which only is proved that they are safe and return.
-UNPROMISED = {"statistic", "allocator", "cache_leaf", "below"}
+UNPROMISED = {"statistic", "allocator", "cache_leaf", "below", "among", "compares_in_place"}
 
 # What the sources do not say of variants and of types in a trait.
 SUMMARIES = {

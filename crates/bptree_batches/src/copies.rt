@@ -20,6 +20,7 @@ fn copy_group<S: NodeStore, M: Copy>(
     marks: &mut [M],
     hit: M,
     miss: M,
+    large: bool,
 )
 where
     S::V: Copy,
@@ -32,7 +33,7 @@ where
 {
     let mut room = [None; GROUP];
     let found = &mut room[..keys.len()];
-    find_group(store, root, height, keys, found);
+    find_group(store, root, height, keys, found, large);
     let mut at = 0;
     'keys: while at < keys.len() {
         match found[at] {
@@ -48,7 +49,8 @@ where
 
 /// In the tree of a height below `root`, reads the value of each key into `values`, and leaves the
 /// value of an absent key unchanged. Writes `hit` to `marks` for each key that is present, and
-/// `miss` for each that is absent. The store's cache is not changed.
+/// `miss` for each that is absent. `large` is what `is_large` returns for the tree. The store's
+/// cache is not changed.
 ///
 /// O(k log n) for k keys, in groups of 16 whose descents are interleaved. It allocates nothing and
 /// cannot fail.
@@ -61,6 +63,7 @@ pub(crate) fn copy_groups<S: NodeStore, M: Copy>(
     marks: &mut [M],
     hit: M,
     miss: M,
+    large: bool,
 )
 where
     S::V: Copy,
@@ -82,6 +85,7 @@ where
             &mut marks[at..end],
             hit,
             miss,
+            large,
         );
         at = end;
     }

@@ -36,6 +36,7 @@ pub(crate) fn find_group<'a, S: NodeStore>(
     height: usize,
     keys: &[S::K],
     found: &mut [Option<&'a S::V>],
+    large: bool,
 )
     requires shape { IsWellShaped S.K.cmp S.Argument.is_summary (S.slots store.now) height root }
     requires few { length keys.now ≤ 16 }
@@ -44,10 +45,10 @@ pub(crate) fn find_group<'a, S: NodeStore>(
 {
     let mut nodes = [root; GROUP];
     let nodes = &mut nodes[..keys.len()];
-    descend_group(store, root, height, keys, nodes);
+    descend_group(store, root, height, keys, nodes, large);
     let mut slots = [Err(0); GROUP];
     let slots = &mut slots[..keys.len()];
-    locate_group(store, height, nodes, keys, slots);
+    locate_group(store, large, nodes, keys, slots);
     let mut at = 0;
     'keys: while at < keys.len() {
         found[at] = value_at(store, nodes[at], slots[at]);
@@ -56,7 +57,8 @@ pub(crate) fn find_group<'a, S: NodeStore>(
 }
 
 /// Writes a reference to the value of each key to `found`, at the key's index, or `None` if the key
-/// is absent, in the tree of a height below `root`. The store's cache is not changed.
+/// is absent, in the tree of a height below `root`. `large` is what `is_large`
+/// returns for the tree. The store's cache is not changed.
 ///
 /// O(k log n) for k keys, in groups of 16 whose descents are interleaved. It allocates nothing and
 /// cannot fail.
@@ -66,6 +68,7 @@ pub(crate) fn find_groups<'a, S: NodeStore>(
     height: usize,
     keys: &[S::K],
     found: &mut [Option<&'a S::V>],
+    large: bool,
 )
     requires shape { IsWellShaped S.K.cmp S.Argument.is_summary (S.slots store.now) height root }
     requires found { length found.old ≡ length keys.now }
@@ -74,7 +77,14 @@ pub(crate) fn find_groups<'a, S: NodeStore>(
     let mut at = 0;
     'groups: while at < keys.len() {
         let end = at + GROUP.min(keys.len() - at);
-        find_group(store, root, height, &keys[at..end], &mut found[at..end]);
+        find_group(
+            store,
+            root,
+            height,
+            &keys[at..end],
+            &mut found[at..end],
+            large,
+        );
         at = end;
     }
 }
@@ -88,6 +98,7 @@ fn mark_group<S: NodeStore, M: Copy>(
     marks: &mut [M],
     hit: M,
     miss: M,
+    large: bool,
 )
     requires shape { IsWellShaped S.K.cmp S.Argument.is_summary (S.slots store.now) height root }
     requires few { length keys.now ≤ 16 }
@@ -96,7 +107,7 @@ fn mark_group<S: NodeStore, M: Copy>(
 {
     let mut values = [None; GROUP];
     let values = &mut values[..keys.len()];
-    find_group(store, root, height, keys, values);
+    find_group(store, root, height, keys, values, large);
     let mut at = 0;
     'keys: while at < keys.len() {
         marks[at] = if values[at].is_some() { hit } else { miss };
@@ -105,7 +116,8 @@ fn mark_group<S: NodeStore, M: Copy>(
 }
 
 /// Writes `hit` to `marks` for each key that is present, and `miss` for each that is absent, at the
-/// key's index, in the tree of a height below `root`.
+/// key's index, in the tree of a height below `root`. `large` is what `is_large` returns for the
+/// tree.
 ///
 /// The cost, allocation and failure are as for `find_groups`.
 pub(crate) fn mark_groups<S: NodeStore, M: Copy>(
@@ -116,6 +128,7 @@ pub(crate) fn mark_groups<S: NodeStore, M: Copy>(
     marks: &mut [M],
     hit: M,
     miss: M,
+    large: bool,
 )
     requires shape { IsWellShaped S.K.cmp S.Argument.is_summary (S.slots store.now) height root }
     requires marks { length marks.old ≡ length keys.now }
@@ -132,6 +145,7 @@ pub(crate) fn mark_groups<S: NodeStore, M: Copy>(
             &mut marks[at..end],
             hit,
             miss,
+            large,
         );
         at = end;
     }

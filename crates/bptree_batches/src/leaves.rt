@@ -1,5 +1,5 @@
-//! Searches of a few keys in their leaves. In a high tree the leaves are expected in no cache, and
-//! each step halves the searches of all keys, so that the processor waits for all leaves at once.
+//! Searches of a few keys in their leaves. In a large tree, each step halves the searches of all
+//! keys. In a smaller one, one key is searched after another.
 ghost use Rattle.std.specs.Prelude.{◌≡◌, ◌+◌, ◌*◌, ◌<◌, ◌≤◌, ℕ, length};
 ghost use Rattle.bptree_batches.specs.Slots.{AreLeavesThere, AreSlotsIn, AreSpans, IsSlotOfLeaf, IsSpanAt};
 ghost use Rattle.bptree_batches.specs.Ways.{IsLeafThere};
@@ -21,7 +21,7 @@ fn span_of<S: NodeStore>(store: &S, id: NodeId) -> (usize, usize)
 }
 
 // Halves the span of the search for a key in the leaf at a node id, so that it has at most `most`
-// keys. No branch depends on the comparison. A span of one key stays as it is.
+// keys. A span of one key stays as it is.
 #[inline(always)]
 fn halve_span<S: NodeStore>(
     store: &S,
@@ -173,8 +173,8 @@ fn locate_steps_counted<S: NodeStore>(
 }
 
 // Returns the slot of a key in the leaf at a node id: `Ok` with the slot, or `Err` with the number
-// of keys of the leaf that are smaller.
-#[inline(always)]
+// of keys of the leaf that are smaller. `is_large` says why it is not inlined.
+#[inline(never)]
 fn locate_in<S: NodeStore>(
     store: &S,
     id: NodeId,
@@ -216,7 +216,7 @@ fn locate_each_counted<S: NodeStore>(
 /// Does what `locate_group` does, and counts its comparisons: at most seven per key.
 pub(crate) fn locate_group_counted<S: NodeStore>(
     store: &S,
-    height: usize,
+    large: bool,
     nodes: &[NodeId],
     keys: &[S::K],
     slots: &mut [Result<usize, usize>],
@@ -230,20 +230,21 @@ pub(crate) fn locate_group_counted<S: NodeStore>(
     ensures counts_on { compares.old ≤ compares.new }
     ensures count { compares.new ≤ compares.old + 7 * length keys.now }
 {
-    match SearchHint::below(height) {
-        SearchHint::Far => locate_steps_counted(store, nodes, keys, slots, compares),
-        _ => locate_each_counted(store, nodes, keys, slots, compares),
+    if large {
+        locate_steps_counted(store, nodes, keys, slots, compares)
+    } else {
+        locate_each_counted(store, nodes, keys, slots, compares)
     }
 }
 
 /// Writes the slot of each key in the leaf at the key's index: `Ok` with the slot, or `Err` with
-/// the number of keys of the leaf that are smaller. The tree's height determines how it searches,
-/// and never what it finds.
+/// the number of keys of the leaf that are smaller. `large` is what `is_large` returns for the
+/// tree. It never changes what is found.
 ///
 /// O(k log n) comparisons for k keys. It allocates nothing and cannot fail.
 pub(crate) fn locate_group<S: NodeStore>(
     store: &S,
-    height: usize,
+    large: bool,
     nodes: &[NodeId],
     keys: &[S::K],
     slots: &mut [Result<usize, usize>],
@@ -254,5 +255,5 @@ pub(crate) fn locate_group<S: NodeStore>(
     requires slots { length slots.old ≡ length keys.now }
     ensures { AreSlotsIn S.K.cmp (S.slots store.now) nodes.now keys.now slots.new }
 {
-    locate_group_counted(store, height, nodes, keys, slots, &mut Compares::new());
+    locate_group_counted(store, large, nodes, keys, slots, &mut Compares::new());
 }

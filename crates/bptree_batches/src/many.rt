@@ -1,8 +1,6 @@
-//! Reads of many keys of a tree at once. The descents of 16 keys are interleaved, so that the
-//! processor waits for the nodes of all of them at once: in a large tree this costs about half of a
-//! look-up for each key. Each call leaves the store's cache unchanged, allocates nothing and cannot
-//! fail.
-ghost use Rattle.std.specs.Prelude.{◌≡◌, ◌<◌, ◌^◌, length, map};
+//! Reads of many keys of a tree at once. The descents of 16 keys are interleaved. Each call leaves
+//! the store's cache unchanged, allocates nothing and cannot fail.
+ghost use Rattle.std.specs.Prelude.{◌≡◌, ◌<◌, ◌≤◌, ◌^◌, length, map};
 ghost use Rattle.std.specs.Map.Iter.{deref_pair};
 ghost use Rattle.std.specs.Option.{option_copied, option_map};
 ghost use Rattle.bptree_batches.specs.Each.{keys_at_each, mark_at_each, mark_each, pairs_each, ranked_each, read_each, values_at_each, values_each};
@@ -20,6 +18,49 @@ use bptree_keys::key::Key;
 use bptree_stores::node_store_vec::NodeStoreVec;
 use bptree_stores::node_stores::NodeStore;
 
+// The number of pairs from which on most leaves are expected in no cache of the processor.
+const LARGE: usize = 1 << 18;
+
+// The number of keys that are read ahead at once.
+const AHEAD: usize = 64;
+
+/// Returns whether a tree of so many pairs is searched as a large one. In the innermost loop of a
+/// function the compiler turns a search without branches into one with branches. While the nodes
+/// are in no cache that is faster, since the next node is fetched before a comparison is done. In a
+/// smaller tree each search is a call of a function, which has no loop and keeps its form.
+///
+/// O(1). It allocates nothing and cannot fail.
+pub fn is_large(pairs: usize) -> bool {
+    pairs >= LARGE
+}
+
+/// Before a change at the key at an index, looks up this key and those after it, at most 64, if
+/// `at` has come to `ahead`. The processor then has the nodes cached that the changes read. Returns
+/// the index of the next key to look up. It looks up no key of a tree that is not large.
+///
+/// O(k log n) for k keys. It allocates nothing and cannot fail.
+#[inline(always)]
+pub fn read_ahead<S: NodeStore>(tree: &Nodes<S>, keys: &[S::K], at: usize, ahead: usize) -> usize
+    requires { at ≤ length keys.now }
+{
+    if at != ahead {
+        return ahead;
+    }
+    if !is_large(tree.len) {
+        return keys.len();
+    }
+    let count = AHEAD.min(keys.len() - at);
+    let mut marks = [false; AHEAD];
+    mark_many(
+        tree,
+        &keys[at..at + count],
+        &mut marks[..count],
+        true,
+        false,
+    );
+    at + count
+}
+
 /// Writes a reference to the value of each key to `found`, at the key's index, or `None` if the key
 /// is absent. `found` has the length of `keys`. The keys may be in any order, and a key may occur
 /// more than once.
@@ -31,7 +72,8 @@ pub fn get_many<'a, S: NodeStore>(tree: &'a Nodes<S>, keys: &[S::K], found: &mut
     ensures { map option_copied found.new ≡ values_each S.K.cmp tree.now.contents keys.now }
 {
     tree.recall();
-    find_groups(&tree.store, tree.root, tree.height, keys, found);
+    let large = is_large(tree.len);
+    find_groups(&tree.store, tree.root, tree.height, keys, found, large);
 }
 
 /// Writes `hit` to `marks` for each key that is present, and `miss` for each that is absent, at the
@@ -49,7 +91,16 @@ pub fn mark_many<S: NodeStore, M: Copy>(
     ensures { marks.new ≡ mark_each S.K.cmp tree.now.contents hit miss keys.now }
 {
     tree.recall();
-    mark_groups(&tree.store, tree.root, tree.height, keys, marks, hit, miss);
+    mark_groups(
+        &tree.store,
+        tree.root,
+        tree.height,
+        keys,
+        marks,
+        hit,
+        miss,
+        is_large(tree.len),
+    );
 }
 
 /// Writes a copy of the value of each key to `values`, at the key's index, and to `marks` what
@@ -81,6 +132,7 @@ where
         marks,
         hit,
         miss,
+        is_large(tree.len),
     );
 }
 
@@ -99,7 +151,8 @@ pub fn rank_many<K: Key, V: Drop>(
     ensures fits { length tree.now.contents < 2 ^ 64 }
 {
     tree.recall();
-    rank_groups(&tree.store, tree.root, tree.height, keys, ranks);
+    let large = is_large(tree.len);
+    rank_groups(&tree.store, tree.root, tree.height, keys, ranks, large);
 }
 
 /// Writes references to the pair at each index in the order of the keys to `found`, or `None` past

@@ -39,7 +39,7 @@ fn ranked<K: Key>(before: usize, slot: Result<usize, usize>) -> usize
 // and the number of keys before the child: those before the node, and those of the node's children
 // before this one.
 #[inline(always)]
-fn rank_child<S: NodeStore<Argument = Count>>(
+fn rank_child_below<S: NodeStore<Argument = Count>>(
     store: &S,
     way: (NodeId, usize),
     height: usize,
@@ -58,6 +58,41 @@ fn rank_child<S: NodeStore<Argument = Count>>(
     )
 }
 
+// Does what `rank_child_below` does, in a function that is not inlined. `is_large` says why.
+#[inline(never)]
+fn rank_child_apart<S: NodeStore<Argument = Count>>(
+    store: &S,
+    way: (NodeId, usize),
+    height: usize,
+    key: &S::K,
+) -> (NodeId, usize)
+    requires subtree { IsSubtree S.K.cmp CountsKeys (S.slots store.now) height way.0 }
+    requires above { 0 < height }
+    ensures { IsRankWay S.K.cmp (S.slots store.now) height way.0 way.1 (height - 1) key.now result }
+{
+    rank_child_below(store, way, height, key)
+}
+
+// Does what `rank_child_below` does, in the form that suits the tree.
+#[inline(always)]
+fn rank_child<S: NodeStore<Argument = Count>>(
+    store: &S,
+    way: (NodeId, usize),
+    height: usize,
+    key: &S::K,
+    large: bool,
+) -> (NodeId, usize)
+    requires subtree { IsSubtree S.K.cmp CountsKeys (S.slots store.now) height way.0 }
+    requires above { 0 < height }
+    ensures { IsRankWay S.K.cmp (S.slots store.now) height way.0 way.1 (height - 1) key.now result }
+{
+    if large {
+        rank_child_below(store, way, height, key)
+    } else {
+        rank_child_apart(store, way, height, key)
+    }
+}
+
 // Writes for each key the leaf that it belongs to, in the tree of a height below `root`, and the
 // number of keys before that leaf. All keys descend one level, and then all of them the next.
 fn descend_ranks<S: NodeStore<Argument = Count>>(
@@ -66,6 +101,7 @@ fn descend_ranks<S: NodeStore<Argument = Count>>(
     height: usize,
     keys: &[S::K],
     ways: &mut [(NodeId, usize)],
+    large: bool,
 )
     requires subtree { IsSubtree S.K.cmp CountsKeys (S.slots store.now) height root }
     requires ways { length ways.old ≡ length keys.now }
@@ -80,7 +116,7 @@ fn descend_ranks<S: NodeStore<Argument = Count>>(
     'levels: while level > 0 {
         let mut at = 0;
         'keys: while at < keys.len() {
-            ways[at] = rank_child(store, ways[at], level, &keys[at]);
+            ways[at] = rank_child(store, ways[at], level, &keys[at], large);
             at += 1;
         }
         level -= 1;
@@ -121,6 +157,7 @@ fn rank_group<S: NodeStore<Argument = Count>>(
     height: usize,
     keys: &[S::K],
     ranks: &mut [usize],
+    large: bool,
 )
     requires subtree { IsSubtree S.K.cmp CountsKeys (S.slots store.now) height root }
     requires few { length keys.now ≤ 16 }
@@ -129,13 +166,13 @@ fn rank_group<S: NodeStore<Argument = Count>>(
 {
     let mut room = [(root, 0); GROUP];
     let ways = &mut room[..keys.len()];
-    descend_ranks(store, root, height, keys, ways);
+    descend_ranks(store, root, height, keys, ways, large);
     let mut nodes = [root; GROUP];
     let nodes = &mut nodes[..keys.len()];
     nodes_of(ways, nodes);
     let mut slots = [Err(0); GROUP];
     let slots = &mut slots[..keys.len()];
-    locate_group(store, height, nodes, keys, slots);
+    locate_group(store, large, nodes, keys, slots);
     let mut at = 0;
     'keys: while at < keys.len() {
         ranks[at] = rank_in_leaf(store, ways[at], &keys[at], slots[at]);
@@ -144,6 +181,7 @@ fn rank_group<S: NodeStore<Argument = Count>>(
 }
 
 /// Writes for each key the number of keys that are smaller, in the tree of a height below `root`.
+/// `large` is what `is_large` returns for the tree.
 ///
 /// O(k log n) for k keys, in groups of 16 whose descents are interleaved. It allocates nothing and
 /// cannot fail.
@@ -153,6 +191,7 @@ pub(crate) fn rank_groups<S: NodeStore<Argument = Count>>(
     height: usize,
     keys: &[S::K],
     ranks: &mut [usize],
+    large: bool,
 )
     requires subtree { IsSubtree S.K.cmp CountsKeys (S.slots store.now) height root }
     requires ranks { length ranks.old ≡ length keys.now }
@@ -161,7 +200,14 @@ pub(crate) fn rank_groups<S: NodeStore<Argument = Count>>(
     let mut at = 0;
     'groups: while at < keys.len() {
         let end = at + GROUP.min(keys.len() - at);
-        rank_group(store, root, height, &keys[at..end], &mut ranks[at..end]);
+        rank_group(
+            store,
+            root,
+            height,
+            &keys[at..end],
+            &mut ranks[at..end],
+            large,
+        );
         at = end;
     }
 }

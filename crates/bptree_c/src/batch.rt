@@ -9,7 +9,7 @@ ghost use Rattle.bptree_map.specs.Many.{without_each};
 
 use crate::handle::{Handle, Map};
 use crate::writing::del_in;
-use bptree_batches::many::{copy_index_many, copy_many, mark_many};
+use bptree_batches::many::{copy_index_many, copy_many, mark_many, read_ahead};
 
 /// Writes the value at each given key to `values` at the key's index, and 1 to `found` there. For
 /// an absent key `values` is unchanged, and `found` gets 0. Each array has the length of `keys`.
@@ -137,7 +137,9 @@ fn del_all(map: &mut Map, keys: &[u64], found: &mut [u8])
     ensures found { found.new ≡ gone_marks map.old keys.now found.old }
 {
     let mut at = 0;
+    let mut ahead = 0;
     while at < keys.len() {
+        ahead = read_ahead(map.pairs.tree().nodes(), keys, at, ahead);
         found[at] = del_mark(map, keys[at]);
         at += 1;
     }

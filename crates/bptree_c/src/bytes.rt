@@ -104,6 +104,12 @@ impl Ord for Bytes {
 }
 
 impl Key for Bytes {
+    // Most comparisons read no more than the heads.
+    #[inline(always)]
+    fn compares_in_place(&self) -> bool {
+        true
+    }
+
     ghost clone_is_equal = { λ x y same. equal_if_same nat_list_cmp_total x y same };
 }
 

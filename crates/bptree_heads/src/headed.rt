@@ -125,6 +125,12 @@ impl<K: HasHead> Key for Headed<K> {
         K::clones_never_fail()
     }
 
+    // Most comparisons read no more than the heads.
+    #[inline(always)]
+    fn compares_in_place(&self) -> bool {
+        true
+    }
+
     ghost clone_is_equal = { K.clone_is_equal };
 }
 

@@ -51,7 +51,7 @@ impl<S: NodeStore> Nodes<S> {
         }
         let leaf = find_leaf(&self.store, self.root, self.height, key, compares);
         self.store.cache_leaf(leaf);
-        (leaf, SearchHint::below(self.height))
+        (leaf, SearchHint::among(self.len, key))
     }
 
     /// Returns the value of a key, or `None` if the key is absent. Counts its comparisons.

@@ -5,15 +5,23 @@ ghost use Rattle.std.specs.List.Sorted.{IsBinarySearchResult, IsSearchInRange, I
 ghost use Rattle.bptree_keys.specs.Locate.{locate, CountsUpTo};
 ghost use Rattle.bptree_keys.specs.Searches.{IsAmong, IsAbove, CountsAmong, CountsOne};
 
+use crate::key::Key;
 use std::cmp::Ordering;
 use std::marker::Model;
 use std::mem::size_of_val;
 
-// The greatest size, in bytes, of a key that is taken to contain all that a comparison reads.
-const LONG: usize = 16;
+/// The greatest size, in bytes, of a key that is taken to contain all that a comparison reads.
+pub(crate) const LONG: usize = 16;
+
+// The greatest size, in bytes, of a key that is searched for with branches in the first two steps
+// alone if the keys are in no cache. For a longer one each step branches.
+const WORD: usize = 8;
 
 // The number of levels of inner nodes below which a leaf is taken to be in no cache.
 const FAR_LEVELS: usize = 3;
+
+// The size of all keys of a tree, in bytes, from which on its leaves are taken to be in no cache.
+const FAR_BYTES: usize = 1 << 19;
 
 /// A guess about the keys of a leaf. The hint selects how the leaf is searched, and never changes
 /// what is found.
@@ -21,8 +29,8 @@ const FAR_LEVELS: usize = 3;
 pub enum SearchHint {
     /// The keys are expected in a cache of the processor.
     Near,
-    /// The keys are expected in no cache. The search begins with branches, so that the next key is
-    /// fetched before a comparison is done.
+    /// The keys are expected in no cache. The search branches, so that the next key is fetched
+    /// before a comparison is done.
     Far,
     /// All keys are expected to be smaller than the searched key. The last key is compared first.
     Last,
@@ -35,6 +43,19 @@ impl SearchHint {
     /// O(1). It allocates nothing and cannot fail.
     pub fn below(levels: usize) -> Self {
         if levels >= FAR_LEVELS {
+            SearchHint::Far
+        } else {
+            SearchHint::Near
+        }
+    }
+
+    /// Returns the hint for a leaf of a tree of `pairs` pairs with keys like `key`: `Far` if the
+    /// keys take half a mebibyte or more.
+    ///
+    /// O(1). It allocates nothing and cannot fail.
+    #[inline(always)]
+    pub fn among<K>(pairs: usize, key: &K) -> Self {
+        if pairs >= FAR_BYTES / size_of_val(key).max(1) {
             SearchHint::Far
         } else {
             SearchHint::Near
@@ -406,7 +427,8 @@ pub fn locate_hinted_counted<K: Ord>(
     ensures count { compares.new ≤ compares.old + 7 }
 {
     match hint {
-        SearchHint::Far if size_of_val(key) <= LONG => search_far(keys, key, compares),
+        SearchHint::Far if size_of_val(key) <= WORD => search_far(keys, key, compares),
+        SearchHint::Far => search_halves(keys, key, keys.len(), compares),
         SearchHint::Last => search_from_end(keys, key, compares),
         _ => locate_counted(keys, key, compares),
     }
@@ -504,14 +526,14 @@ fn count_upto_few<K: Ord>(keys: &[K], key: &K, compares: &mut Compares) -> usize
 
 /// Returns how many of ascending `keys` are not greater than `key`.
 #[inline(always)]
-pub fn count_upto_counted<K: Ord>(keys: &[K], key: &K, compares: &mut Compares) -> usize
+pub fn count_upto_counted<K: Key>(keys: &[K], key: &K, compares: &mut Compares) -> usize
     requires { length keys.now ≤ 64 }
     ensures in_range { result ≤ length keys.now }
     ensures ascending { CountsUpTo K.cmp key.now keys.now result }
     ensures counts_on { compares.old ≤ compares.new }
     ensures count { compares.new ≤ compares.old + 7 }
 {
-    if size_of_val(key) <= LONG {
+    if key.compares_in_place() {
         if keys.len() > 16 {
             return count_upto_many(keys, key, compares);
         }

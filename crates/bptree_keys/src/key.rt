@@ -7,6 +7,9 @@ ghost use Rattle.std.proofs.Common.{rules};
 ghost use Rattle.std.proofs.lemmas.Cmp.{nat_list_cmp_total};
 ghost use Rattle.bptree_keys.specs.Keys.{equal_if_same, then_equal, AllInfallible};
 
+use crate::compares::LONG;
+use std::mem::size_of_val;
+
 /// A type whose values are ordered, and whose clones are equal to their originals.
 pub trait Key: Clone + Ord {
     /// Returns `true` only if no clone of a key fails. The default, `false`, is always allowed.
@@ -16,6 +19,17 @@ pub trait Key: Clone + Ord {
         ensures { IsTrue result → AllInfallible Self.is_infallible }
     {
         false
+    }
+
+    /// Returns `true` if a comparison of such keys is expected to read no memory beside the keys
+    /// themselves. The search of an inner node then has no branch that depends on a comparison.
+    /// The result selects how a node is searched, and never changes what is found. The default is
+    /// `true` for keys of at most 16 bytes.
+    ///
+    /// O(1). It allocates nothing and cannot fail.
+    #[inline(always)]
+    fn compares_in_place(&self) -> bool {
+        size_of_val(self) <= LONG
     }
 
     ghost clone_is_equal: { (x y : Self) → Self.is_clone x y → Self.cmp x y ≡ Equal };

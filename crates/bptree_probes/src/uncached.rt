@@ -13,11 +13,12 @@ use bptree_keys::node_id::NodeId;
 use bptree_map::map::BPlusTreeMap;
 use bptree_stores::node_stores::NodeStore;
 
-// The value at a key, in the tree of a store. O(log n): one descent.
+// The value at a key, in the tree of a store that has `pairs` pairs. O(log n): one descent.
 fn value_at<'a, S: NodeStore>(
     store: &'a S,
     root: NodeId,
     height: usize,
+    pairs: usize,
     key: &S::K,
 ) -> Option<&'a S::V>
     requires { IsWellShaped S.K.cmp S.Argument.is_summary (S.slots store.now) height root }
@@ -25,7 +26,7 @@ fn value_at<'a, S: NodeStore>(
 {
     let mut compares = Compares::new();
     let leaf = store.get_leaf(find_leaf(store, root, height, key, &mut compares));
-    let hint = SearchHint::below(height);
+    let hint = SearchHint::among(pairs, key);
     let (_, value) = leaf.locate_slot_with_value_counted(key, hint, &mut compares);
     value
 }
@@ -40,7 +41,13 @@ pub fn get_uncached<'a, K: Key, V: Drop, A: Argument<K>>(
     ensures { option_copied result ≡ value K.cmp map.now key.now }
 {
     let tree = map.tree();
-    value_at(tree.node_store(), tree.root_id(), tree.height(), key)
+    value_at(
+        tree.node_store(),
+        tree.root_id(),
+        tree.height(),
+        tree.len(),
+        key,
+    )
 }
 
 /// Whether a key is present.

@@ -1,6 +1,7 @@
 //! Searches among each number of keys that a node can have: near the root, far below it, and from
 //! the end.
 use bptree_keys::compares::{Compares, SearchHint, count_upto_counted, locate_hinted_counted};
+use bptree_keys::key::Key;
 
 // The slot of a number among the first `len` of 2, 4, 6 and so on, or the number of smaller ones.
 fn index_among_evens(number: usize, len: usize) -> Result<usize, usize> {
@@ -47,5 +48,23 @@ fn finds_each_key_near_and_far_and_from_the_end(rt: HostRuntime) {
             well &= finds_each(&evens[..len], levels);
         }
     }
+    assert!(rt; well);
+}
+
+// The keys of 65,536 numbers take half a mebibyte, and so do those of 32,768 pairs of them.
+#[test]
+fn takes_the_leaves_of_a_large_tree_to_be_far(rt: HostRuntime) {
+    let mut well = matches!(SearchHint::among(65_535, &0u64), SearchHint::Near);
+    well &= matches!(SearchHint::among(65_536, &0u64), SearchHint::Far);
+    well &= matches!(SearchHint::among(32_767, &(0u64, 0u64)), SearchHint::Near);
+    well &= matches!(SearchHint::among(32_768, &(0u64, 0u64)), SearchHint::Far);
+    well &= matches!(SearchHint::among(usize::MAX, &()), SearchHint::Far);
+    assert!(rt; well);
+}
+
+#[test]
+fn long_keys_are_not_compared_in_place(rt: HostRuntime) {
+    let mut well = 0u64.compares_in_place() && (0u64, 0u64).compares_in_place();
+    well &= !((0u64, 0u64), 0u64).compares_in_place();
     assert!(rt; well);
 }

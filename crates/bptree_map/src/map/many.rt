@@ -42,9 +42,8 @@ impl<K: Key, V: Drop, A: Argument<K>> BPlusTreeMap<K, V, A> {
     /// key is absent. `found` has the length of `keys`. The keys may be in any order, and a key may
     /// occur more than once.
     ///
-    /// O(k log n) for k keys. The descents of 16 keys run side by side, so that the processor waits
-    /// for the nodes of all of them at once: in a large map, a key costs about half of a `get`. It
-    /// does not change the cached leaf. It allocates nothing and cannot fail.
+    /// O(k log n) for k keys. The descents of 16 keys run side by side. It does not change the cached
+    /// leaf. It allocates nothing and cannot fail.
     pub fn get_many<'a>(&'a self, keys: &[K], found: &mut [Option<&'a V>])
         requires { length found.old ≡ length keys.now }
         ensures { map option_copied found.new ≡ values_each K.cmp self.now keys.now }
@@ -67,8 +66,9 @@ impl<K: Key, V: Drop, A: Argument<K>> BPlusTreeMap<K, V, A> {
     /// the key's index, and returns how many keys it was done for: all of them, or those before the
     /// first key whose removal failed. `removed` has the length of `keys`.
     ///
-    /// O(k log n) for k keys. It allocates what the removals allocate, and stops if one of them
-    /// fails: never, if clones of the keys and summaries never fail.
+    /// O(k log n) for k keys. In a large map it looks up the next keys side by side before it removes
+    /// them. It allocates what the removals allocate, and stops if one of them fails: never, if
+    /// clones of the keys and summaries never fail.
     pub fn remove_many(&mut self, keys: &[K], removed: &mut [Option<V>]) -> usize
         requires { length removed.old ≡ length keys.now }
         ensures within { result ≤ length keys.now }
@@ -78,7 +78,9 @@ impl<K: Key, V: Drop, A: Argument<K>> BPlusTreeMap<K, V, A> {
         ensures stops { (k : K) → slice_get keys.now result ≡ Some k → IsTrue (has K.cmp self.new k) }
     {
         let mut at = 0;
+        let mut ahead = 0;
         'keys: while at < keys.len() {
+            ahead = many::read_ahead(self.inner.nodes(), keys, at, ahead);
             match self.remove(&keys[at]) {
                 Ok(value) => removed[at] = value,
                 Err(_) => return at,

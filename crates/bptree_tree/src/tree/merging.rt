@@ -11,7 +11,7 @@ ghost use Rattle.bptree_tree.specs.declared.AppendError.TheVariants.{Full};
 use crate::tree::{BPlusTree, IntoIter};
 use crate::{AppendError, InsertError};
 use bptree_arguments::argument::Argument;
-use bptree_batches::many::mark_many;
+use bptree_batches::many::{is_large, mark_many};
 use bptree_bulk::filling::plant_filling;
 use bptree_bulk::joining::{join, plan_join};
 use bptree_bulk::tail::{plan_all, plant_tail};
@@ -199,10 +199,14 @@ impl<S: NodeStore> BPlusTree<S> {
     }
 
     // Counts down the pairs whose keys were read ahead. Once all of them are put, it reads the keys
-    // of the next leaf ahead, and returns how many they are.
+    // of the next leaf ahead, and returns how many they are. If the tree is not large, it never
+    // reads ahead.
     fn next_ahead(&self, ahead: usize, rest: &IntoIter<S>) -> usize {
         if ahead > 1 {
             return ahead - 1;
+        }
+        if !is_large(self.len()) {
+            return usize::MAX;
         }
         let keys = rest.next_keys();
         self.read_ahead(keys);

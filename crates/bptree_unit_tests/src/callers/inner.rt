@@ -8,6 +8,7 @@ ghost use Rattle.bptree_keys.specs.declared.node_id.NodeId.{NodeId};
 ghost use Rattle.bptree_nodes.specs.Inner.{Gives};
 
 use bptree_keys::compares::Compares;
+use bptree_keys::key::Key;
 use bptree_keys::node_id::NodeId;
 use bptree_nodes::inner_node::InnerNode;
 use std::alloc::{AllocError, Global};
@@ -298,7 +299,7 @@ fn returns_what_it_took<K: Drop, A: Drop>(
 
 // The child for a key among two separators is behind an equal one, and before a greater one. The
 // search that counts its comparisons finds the same child.
-fn goes_behind_an_equal_key<K: Ord + Drop, A: Drop>(
+fn goes_behind_an_equal_key<K: Key + Drop, A: Drop>(
     node: &InnerNode<K, A>,
     key: &K,
 ) -> ((usize, NodeId), NodeId, usize)

@@ -61,7 +61,7 @@ fn finds_from_the_end<K: Ord>(keys: &[K], key: &K) -> (Result<usize, usize>, usi
 }
 
 // In whatever order the keys are, the result is a slot among them or the end.
-fn stays_among_the_keys<K: Ord>(keys: &[K], key: &K) -> (usize, Result<usize, usize>)
+fn stays_among_the_keys<K: Key>(keys: &[K], key: &K) -> (usize, Result<usize, usize>)
     requires { length keys.now ≤ 64 }
     ensures child { result.0 ≤ length keys.now }
     ensures there { IfOk result.1 (λ index. index ≤ length keys.now) }
@@ -73,7 +73,7 @@ fn stays_among_the_keys<K: Ord>(keys: &[K], key: &K) -> (usize, Result<usize, us
 }
 
 // The child for a key is behind an equal separator, or else behind the smaller separators.
-fn goes_behind_an_equal_key<K: Ord>(keys: &[K], key: &K) -> (usize, usize)
+fn goes_behind_an_equal_key<K: Key>(keys: &[K], key: &K) -> (usize, usize)
     requires few { length keys.now ≤ 64 }
     requires ascending { IsStrictlySortedBy K.cmp keys.now }
     ensures first { (x y : K) → keys.now ≡ x ∷ y ∷ [] → K.cmp x key.now ≡ Greater → K.cmp y key.now ≡ Greater → result.0 ≡ 0 }

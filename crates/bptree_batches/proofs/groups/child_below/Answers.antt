@@ -1,5 +1,5 @@
 use Rattle.bptree_batches.proofs.WayLemmas.{way_to_child}
-use Rattle.bptree_batches.proofs.groups.child_for.Goals as goal
+use Rattle.bptree_batches.proofs.groups.child_below.Goals as goal
 
 pub returns : goal.returns
 returns g c =

@@ -1,5 +1,5 @@
 use Rattle.bptree_batches.proofs.RankWayLemmas.{rank_to_child}
-use Rattle.bptree_batches.proofs.ranks.rank_child.Goals as goal
+use Rattle.bptree_batches.proofs.ranks.rank_child_below.Goals as goal
 
 pub returns : goal.returns
 returns g c =
