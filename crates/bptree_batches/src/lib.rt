@@ -1,5 +1,5 @@
 //! Look-ups of many keys at once: the descents of 16 keys are interleaved, so that the processor
-//! waits for all their nodes at once.
+//! can fetch several nodes at a time.
 #![tactic(auto)]
 
 mod copies;

@@ -11,8 +11,8 @@
 #include <stddef.h>
 #include <stdint.h>
 
-#define SWEEP_BPTREE_VERSION "0.7.1"
-#define SWEEP_BPTREE_VERSION_NUMBER 7001
+#define SWEEP_BPTREE_VERSION "0.8.0"
+#define SWEEP_BPTREE_VERSION_NUMBER 8000
 
 #ifdef __cplusplus
 extern "C" {

@@ -104,10 +104,10 @@ impl Ord for Bytes {
 }
 
 impl Key for Bytes {
-    // Most comparisons read no more than the heads.
+    // The heads between two different heads are expected to differ from most others.
     #[inline(always)]
-    fn compares_in_place(&self) -> bool {
-        true
+    fn compares_in_place(&self, last: &Self) -> bool {
+        self.head != last.head
     }
 
     ghost clone_is_equal = { λ x y same. equal_if_same nat_list_cmp_total x y same };

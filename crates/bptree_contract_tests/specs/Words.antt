@@ -149,6 +149,10 @@ module _ {K V : Type 0} where
     abbrev pub AddsBetween : K → V → List (K × V) → List (K × V) → Type 0
     AddsBetween k v old new = new ≡ pairs_below cmp old k ++ (k, v) ∷ pairs_above cmp old k
 
+    -- Of two pairs the first was put, and then the second.
+    abbrev pub PutsTwoInTurn : List (K × V) → List (K × V) → List (K × V) → Type 0
+    PutsTwoInTurn pairs old new = (p q : K × V) → pairs ≡ p ∷ q ∷ [] → new ≡ put cmp (put cmp old p.0 p.1) q.0 q.1
+
     -- Of the pairs with equal keys the list has the value of the last one.
     abbrev pub PutsLastOfEach : List (K × V) → List (K × V) → Type 0
     PutsLastOfEach pairs new =

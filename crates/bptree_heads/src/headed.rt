@@ -125,10 +125,10 @@ impl<K: HasHead> Key for Headed<K> {
         K::clones_never_fail()
     }
 
-    // Most comparisons read no more than the heads.
+    // The heads between two different heads are expected to differ from most others.
     #[inline(always)]
-    fn compares_in_place(&self) -> bool {
-        true
+    fn compares_in_place(&self, last: &Self) -> bool {
+        self.head != last.head
     }
 
     ghost clone_is_equal = { K.clone_is_equal };

@@ -2,6 +2,4 @@
 #![tactic(auto)]
 
 pub mod head;
-#[cfg(test)]
-mod head_tests;
 pub mod headed;

@@ -533,11 +533,12 @@ pub fn count_upto_counted<K: Key>(keys: &[K], key: &K, compares: &mut Compares) 
     ensures counts_on { compares.old ≤ compares.new }
     ensures count { compares.new ≤ compares.old + 7 }
 {
-    if key.compares_in_place() {
-        if keys.len() > 16 {
+    let count = keys.len();
+    if count > 0 && keys[0].compares_in_place(&keys[count - 1]) {
+        if count > 16 {
             return count_upto_many(keys, key, compares);
         }
-        if keys.len() < 8 {
+        if count < 8 {
             return count_upto_few(keys, key, compares);
         }
     }

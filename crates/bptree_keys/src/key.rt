@@ -21,14 +21,14 @@ pub trait Key: Clone + Ord {
         false
     }
 
-    /// Returns `true` if a comparison of such keys is expected to read no memory beside the keys
-    /// themselves. The search of an inner node then has no branch that depends on a comparison.
-    /// The result selects how a node is searched, and never changes what is found. The default is
+    /// Returns `true` if comparisons with the keys of a node, of which `self` is the first and
+    /// `last` the last, are expected to read no memory beside the keys themselves. The result
+    /// selects how an inner node is searched, and never changes what is found. The default is
     /// `true` for keys of at most 16 bytes.
     ///
     /// O(1). It allocates nothing and cannot fail.
     #[inline(always)]
-    fn compares_in_place(&self) -> bool {
+    fn compares_in_place(&self, _last: &Self) -> bool {
         size_of_val(self) <= LONG
     }
 

@@ -5,7 +5,7 @@ ghost use Rattle.bptree_keys.specs.Contents.{IsAscending, gather};
 use crate::map::BPlusTreeMap;
 use bptree_arguments::argument::Argument;
 use bptree_keys::key::Key;
-use bptree_load_plan::loading::sort_for_load;
+use bptree_load_plan::loading::{laws_of_load, sort_for_load};
 use bptree_stores::node_store_vec::NodeStoreVec;
 use bptree_tree::BPlusTree;
 use std::alloc::AllocError;
@@ -29,6 +29,17 @@ pub fn gather_map<K: Key, V: Drop, A: Argument<K>>(
     ensures { IfOk result (λ map. map ≡ gather K.cmp pairs.items) }
 {
     Ok(BPlusTreeMap::of_tree(gather_tree(pairs)?))
+}
+
+/// A map of pairs whose keys ascend. If an allocation fails, the pairs are dropped.
+pub(crate) fn load_map<K: Key, V: Drop, A: Argument<K>>(
+    pairs: Vec<(K, V)>,
+) -> Result<BPlusTreeMap<K, V, A>, AllocError>
+    requires { IsAscending K.cmp pairs.items }
+    ensures { IfOk result (λ map. map ≡ pairs.items) }
+{
+    laws_of_load::<K, V>();
+    Ok(BPlusTreeMap::of_tree(BPlusTree::bulk_load(pairs)?))
 }
 
 /// Gathering pairs whose keys ascend makes these pairs: so `from_iter` of the pairs of `into_iter`

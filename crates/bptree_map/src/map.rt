@@ -319,7 +319,7 @@ impl<K: Key, V: Drop, A: Argument<K>> BPlusTreeMap<K, V, A> {
 
     /// Replaces the key that equals `k` by `k`, and returns it. Its value stays.
     ///
-    /// O(log n): one descent. The summaries above the key are computed anew. Only they can
+    /// O(log n): one descent. The summaries above the key are computed again. Only they can
     /// allocate, so without summaries the call never fails for a key that is present. If no key
     /// equals `k`, or if an allocation fails, the error returns `k`, and the map is unchanged.
     pub fn replace_key(&mut self, k: K) -> Result<K, ReplaceError<K>>
@@ -530,7 +530,7 @@ impl<K: Key, V: Drop, A: Argument<K>> BPlusTreeMap<K, V, A> {
     }
 
     /// The pairs whose keys are at least `lo` and below `hi`, in the order of their keys. `None`
-    /// stands for no bound.
+    /// means no bound.
     ///
     /// O(log n) to begin: one descent for each bound, whatever the number of pairs. O(1) a step.
     /// `len` takes O(1) for each leaf of the range. Neither it nor a step allocates or fails.
@@ -543,7 +543,7 @@ impl<K: Key, V: Drop, A: Argument<K>> BPlusTreeMap<K, V, A> {
     }
 
     /// A summary of the keys that are at least `lo` and below `hi`, or `Default` if there are none.
-    /// `None` stands for no bound.
+    /// `None` means no bound.
     ///
     /// O(log n): one descent for each bound, whatever the number of pairs. The summaries of the
     /// children between both descents are combined. It fails only if the argument does, or if the
@@ -652,7 +652,7 @@ impl<K: Key, V: Drop, A: Argument<K>> BPlusTreeMap<K, V, A> {
 }
 
 impl<K: Key, V: Drop> BPlusTreeMap<K, V, Count> {
-    /// The number of keys that are at least `lo` and below `hi`. `None` stands for no bound.
+    /// The number of keys that are at least `lo` and below `hi`. `None` means no bound.
     ///
     /// O(log n): one descent for each bound, whatever the number of keys. It allocates nothing and
     /// cannot fail.

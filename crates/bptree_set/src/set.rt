@@ -273,7 +273,7 @@ impl<K: Key> BPlusTreeSet<K> {
         self.map.keys()
     }
 
-    /// The keys that are at least `lo` and below `hi`, in their order. `None` stands for no bound.
+    /// The keys that are at least `lo` and below `hi`, in their order. `None` means no bound.
     ///
     /// O(log n) to begin: one descent for each bound, whatever the number of keys. O(1) a step.
     /// `len` takes O(1) for each leaf of the range. Neither it nor a step allocates or fails.

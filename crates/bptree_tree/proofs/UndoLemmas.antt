@@ -91,6 +91,15 @@ module _ {K V : Type 0} {cmp : K → K → Ordering} (total : IsTotalOrder cmp) 
         let same : old ≡ found.pair.1 = some_same old found.pair.1 (sym was ∙ value_hit cmp l _ _ _ k hit) in
         put_hit cmp (put cmp l k v) _ _ _ k hit_then old ∙ (ap (λ w. found.before ++ (found.pair.0, w) ∷ found.after) same ∙ sym hit.parts)
 
+    -- any key that equals the one there replaces its value
+    pub put_same : (c : K) → cmp k c ≡ Equal → put cmp l k v ≡ put cmp l c v
+    put_same c equal =
+        let found = found_if_there cmp k l there in
+        let same : cmp found.pair.0 c ≡ Equal = total.congr found.pair.0 k c hit.equal ∙ equal in
+        let at = equal_parts cmp total found.before found.pair found.after c (subst (IsAscending cmp) hit.parts up) same in
+        let hit' : IsHit cmp l found.before found.pair found.after c = record { parts = hit.parts; smaller = at.smaller; equal = same; greater = at.greater } in
+        put_hit cmp l _ _ _ k hit v ∙ sym (put_hit cmp l _ _ _ c hit' v)
+
 module _ {K V : Type 0} {cmp : K → K → Ordering} (total : IsTotalOrder cmp) (l : List (K × V)) (up : IsAscending cmp l) (pair : K × V) where
   -- undoing an insertion restores the pair and the list
   module _ (c : K) (can : (has cmp l pair.0 ≡ false) × (cmp pair.0 c ≡ Equal)) (now : List (K × V)) (put : now ≡ put_pair cmp l pair) where

@@ -1,5 +1,5 @@
 -- How pairs that were put are taken back.
-use Rattle.std.specs.Prelude.{◌≡◌, false, List, [], ◌∷◌, ◌++◌, length, reverse, Some}
+use Rattle.std.specs.Prelude.{◌≡◌, ◌+◌, ◌≤◌, false, List, [], ◌∷◌, ◌++◌, length, reverse, vec_capacity, vec_len, Some}
 use Rattle.std.specs.declared.cmp.Ordering.{Ordering}
 use Rattle.std.specs.declared.cmp.Ordering.TheVariants.{Equal}
 use Rattle.std.specs.declared.vec.Vec.{Vec}
@@ -26,6 +26,12 @@ module _ {K V : Type 0} (cmp : K → K → Ordering) where
   -- the entry that takes a pair back is appended to the other entries
   abbrev pub Notes : {Z : Type 0} → K × V → List (K × V) → Vec (Undo K V) Z → Vec (Undo K V) Z → Type 0
   Notes pair l old new = (entry : Undo K V) × (new.items ≡ old.items ++ entry ∷ []) × CanUndo entry pair l
+
+  -- a pair was put, and the entry that takes it back is appended to the other entries
+  pub record NotesPut {Z : Type 0} (l new : List (K × V)) (undo undo' : Vec (Undo K V) Z) : Type 0 where
+    pub pair : K × V
+    pub put : new ≡ put_pair cmp l pair
+    pub noted : Notes pair l undo undo'
 
   module _ (entry : Undo K V) (now : List (K × V)) where
     -- a pair was put into an ascending list, and the entry takes it back
@@ -55,3 +61,8 @@ module _ {K V : Type 0} (cmp : K → K → Ordering) where
     abbrev pub StopsAt : List (K × V) → List (K × V) → K × V → Type 0
     StopsAt rest rest' pair =
         (moved : List (K × V)) × (rest ≡ moved ++ pair ∷ rest') × CanUndoAll undo.items moved old.contents new.contents × (length undo.items ≡ length moved)
+
+    -- some pairs were put and can be taken back, and a vector has room for them
+    abbrev pub StopsWithin : {Y : Type 0} → Vec (K × V) Y → Type 0
+    StopsWithin rest =
+        (moved : List (K × V)) × CanUndoAll undo.items moved old.contents new.contents × (vec_len rest + length undo.items ≤ vec_capacity rest)

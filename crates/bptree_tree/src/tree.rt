@@ -14,6 +14,7 @@ mod bounds;
 mod cloning;
 mod cursors;
 mod entries;
+mod extending;
 mod indexes;
 mod lending;
 mod loading;

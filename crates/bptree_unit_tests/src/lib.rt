@@ -1,4 +1,4 @@
-//! Tests and proved callers of the parts below the tree: node ids, nodes, stores, summaries,
+//! Tests and proved callers of the parts below the tree: heads, node ids, nodes, stores, summaries,
 //! loading, merging, requests and shards.
 #![tactic(auto)]
 
@@ -10,6 +10,8 @@ mod count_tests;
 mod group_result_tests;
 #[cfg(test)]
 mod group_tests;
+#[cfg(test)]
+mod head_tests;
 #[cfg(test)]
 mod inner_tests;
 #[cfg(test)]

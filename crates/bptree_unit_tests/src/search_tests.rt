@@ -64,7 +64,7 @@ fn takes_the_leaves_of_a_large_tree_to_be_far(rt: HostRuntime) {
 
 #[test]
 fn long_keys_are_not_compared_in_place(rt: HostRuntime) {
-    let mut well = 0u64.compares_in_place() && (0u64, 0u64).compares_in_place();
-    well &= !((0u64, 0u64), 0u64).compares_in_place();
+    let mut well = 0u64.compares_in_place(&1) && (0u64, 0u64).compares_in_place(&(0, 1));
+    well &= !((0u64, 0u64), 0u64).compares_in_place(&((0, 1), 0));
     assert!(rt; well);
 }

@@ -6,7 +6,7 @@ ghost use Rattle.bptree_propagation.specs.Borrowing.{written};
 ghost use Rattle.bptree_propagation.specs.Failing.{NeverFails};
 ghost use Rattle.bptree_tree.specs.Changes.{PopsFirst, PopsLast, RemovesEntry};
 ghost use Rattle.bptree_tree.specs.Whole.{HasSameTop};
-ghost use Rattle.bptree_contract_tests.specs.Words.{AddsBetween, HoldsTheSame, KeepsSlots, Lacks, Loses, PopsFirstOfTwo, PopsLastOfTwo, WritesValue, reported_value, StaysWhole};
+ghost use Rattle.bptree_contract_tests.specs.Words.{AddsBetween, HoldsTheSame, KeepsSlots, Lacks, Loses, PopsFirstOfTwo, PopsLastOfTwo, PutsTwoInTurn, WritesValue, reported_value, StaysWhole};
 
 use bptree_stores::node_stores::NodeStore;
 use bptree_tree::{BPlusTree, InsertError};
@@ -128,6 +128,22 @@ fn takes_the_pair_of_a_key<S: NodeStore>(
     ensures infallible { NeverFails S.Argument.needs_no_memory S.K.is_infallible result }
 {
     tree.remove_entry(k)
+}
+
+// Of two pairs that are inserted at once the second is put last. If the call fails, neither is
+// there. If the call does not serve for so many pairs, the tree is unchanged.
+fn inserts_two<S: NodeStore>(
+    tree: &mut BPlusTree<S>,
+    pairs: Vec<(S::K, S::V)>,
+) -> Result<(), AllocError>
+    ensures two { OnOk result (PutsTwoInTurn S.K.cmp pairs.items tree.old.contents tree.new.contents) }
+    ensures none { pairs.items ≡ [] → tree.new.contents ≡ tree.old.contents }
+    ensures failed { OnErr result (tree.new.contents ≡ tree.old.contents) }
+{
+    if !tree.takes_few(pairs.len()) {
+        return Err(AllocError);
+    }
+    tree.insert_all(pairs)
 }
 
 // The result of a removal: the pair, or `None`.

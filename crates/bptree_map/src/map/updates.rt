@@ -116,7 +116,7 @@ impl<K: Key, V: Drop, A: Argument<K>> BPlusTreeMap<K, V, A> {
     }
 
     /// Changes the value of each pair whose key is at least `lo` and below `hi` by a closure, in
-    /// the order of the keys. `None` stands for no bound. Keys and summaries are unchanged.
+    /// the order of the keys. `None` means no bound. Keys and summaries are unchanged.
     ///
     /// O(log n + m) for m pairs. It allocates nothing and cannot fail.
     pub fn update_range<'b, F: FnMut(&K, &mut V)>(

@@ -37,12 +37,15 @@ impl<K: Key> BPlusTreeSet<K> {
     /// Inserts all keys of a vector, or none. Of equal keys the last one stays, as in `from_iter`.
     /// A key that the set holds stays, and the one that equals it is dropped.
     ///
-    /// O(m log m) comparisons to sort m keys. Then they are a set, and it costs what `append` of
-    /// that set costs. It allocates a second vector of m keys, room to sort more than 20, the nodes
-    /// of that set, and what `append` allocates. If one of these fails, or a clone of a key, the
-    /// set is unchanged and the keys are dropped. It returns `Full` only if the different keys of
-    /// the vector and the keys of the set are more than `usize::MAX` together. If the vector is
-    /// empty, it allocates nothing and cannot fail.
+    /// O(m log m) comparisons to sort m keys. If they are less than a sixth of the keys of the set
+    /// and no clone of a key can fail, as `clones_never_fail` says, it inserts them one by one, and
+    /// removes them again if an allocation fails. Otherwise it makes a set of them, and costs what
+    /// `append` of that set costs. It allocates a second vector of m keys, room to sort more than
+    /// 20, and then room for m keys and what the insertions allocate, or the nodes of the other set
+    /// and what `append` allocates. If one of these fails, or a clone of a key, the set is
+    /// unchanged and the keys are dropped. It returns `Full` only if the different keys of the
+    /// vector and the keys of the set are more than `usize::MAX` together. If the vector is empty,
+    /// it allocates nothing and cannot fail.
     pub fn extend_from_vec(&mut self, keys: Vec<K>) -> Result<(), AppendError>
         ensures ok { OnOk result (PutsAllKeys K.cmp keys.items self.old self.new) }
         ensures full { (result ≡ Err Full) → AreTooManyKeys K.cmp usize.MAX keys.items self.old }

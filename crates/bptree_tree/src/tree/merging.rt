@@ -22,13 +22,12 @@ use std::alloc::AllocError;
 use std::cmp::Ordering;
 use std::mem;
 
-// How to undo a put.
+/// How to undo a put.
 #[derive(Drop)]
-enum Undo<K, V> {
-    // The put inserted a pair with a key that equals this one.
+pub(crate) enum Undo<K, V> {
+    /// The put inserted a pair with a key that equals this one.
     Inserted(K),
-    // The put replaced the value of a present key: the key that came with the new value, and the
-    // old value.
+    /// The put replaced the value of a present key: a key that equals that key, and the old value.
     Replaced(K, V),
 }
 
@@ -90,7 +89,7 @@ fn move_back<S: NodeStore>(rest: IntoIter<S>, pairs: &mut Vec<(S::K, S::V)>)
 impl<S: NodeStore> BPlusTree<S> {
     // States for a proof what holds of every tree. O(1). It does nothing and cannot fail.
     #[inline(always)]
-    fn recall_whole(&self)
+    pub(crate) fn recall_whole(&self)
         ensures fits { length self.now.contents < 2 ^ 64 }
         ensures ascending { IsAscending S.K.cmp self.now.contents }
         ensures whole { IsWhole S.K.cmp S.Argument.is_summary S.slots self.now }
@@ -175,7 +174,7 @@ impl<S: NodeStore> BPlusTree<S> {
     }
 
     // Undoes all puts, the last one first, and moves their pairs to the end of `pairs`.
-    fn take_back(&mut self, undo: Vec<Undo<S::K, S::V>>, pairs: &mut Vec<(S::K, S::V)>)
+    pub(crate) fn take_back(&mut self, undo: Vec<Undo<S::K, S::V>>, pairs: &mut Vec<(S::K, S::V)>)
         requires infallible { S.Argument.needs_no_memory × AllInfallible S.K.is_infallible }
         requires put { WerePut S.K.cmp undo.items self.old.contents }
         requires room { vec_len pairs.old + length undo.items ≤ vec_capacity pairs.old }
@@ -271,12 +270,14 @@ impl<S: NodeStore> BPlusTree<S> {
         }
     }
 
-    // Whether the pairs of another tree move one by one: the tree has less than a sixth of the
-    // pairs of this one, and no removal can fail.
-    fn takes_few(&self, other: &Self) -> bool
+    /// Returns `true` if so many pairs are inserted one by one: they are less than a sixth of the
+    /// pairs of this tree, and no removal can fail.
+    ///
+    /// O(1). It allocates nothing and cannot fail.
+    pub fn takes_few(&self, pairs: usize) -> bool
         ensures { result ≡ true → S.Argument.needs_no_memory × AllInfallible S.K.is_infallible }
     {
-        S::K::clones_never_fail() && S::Argument::never_fails() && other.len() < self.len() / 6
+        S::K::clones_never_fail() && S::Argument::never_fails() && pairs < self.len() / 6
     }
 
     // Whether each key of this tree is below each key of another.
@@ -325,7 +326,7 @@ impl<S: NodeStore> BPlusTree<S> {
         if self.len() > usize::MAX - other.len() {
             return Err(AppendError::Full);
         }
-        let moved = if self.takes_few(other) {
+        let moved = if self.takes_few(other.len()) {
             self.append_few(other)
         } else {
             self.move_all(other)

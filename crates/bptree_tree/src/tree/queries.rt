@@ -66,7 +66,7 @@ impl<S: NodeStore> BPlusTree<S> {
     }
 
     /// A summary of the keys that are at least `lo` and below `hi`, or `Default` if there are none.
-    /// `None` stands for no bound.
+    /// `None` means no bound.
     ///
     /// O(log n): one descent for each bound, whatever the number of pairs. The summaries of the
     /// children between both descents are combined. It fails only if the argument does, or if the
@@ -147,7 +147,7 @@ impl<S: NodeStore> BPlusTree<S> {
 }
 
 impl<K: Key, V: Drop> BPlusTree<NodeStoreVec<K, V, Count>> {
-    /// The number of keys that are at least `lo` and below `hi`. `None` stands for no bound.
+    /// The number of keys that are at least `lo` and below `hi`. `None` means no bound.
     ///
     /// O(log n): one descent for each bound, whatever the number of keys. It allocates nothing and
     /// cannot fail.

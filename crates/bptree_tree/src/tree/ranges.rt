@@ -31,7 +31,7 @@ pub(crate) fn pairs_from<S: NodeStore>(tree: &Nodes<S>, part: Part) -> Iter<'_, 
 
 impl<S: NodeStore> BPlusTree<S> {
     /// The pairs whose keys are at least `lo` and below `hi`, in the order of their keys. `None`
-    /// stands for no bound.
+    /// means no bound.
     ///
     /// O(log n) to begin: one descent for each bound, whatever the number of pairs. O(1) a step.
     /// `len` takes O(1) for each leaf of the range. Neither it nor a step allocates or fails.

@@ -13,7 +13,7 @@ use bptree_stores::node_stores::NodeStore;
 impl<S: NodeStore> BPlusTree<S> {
     /// Replaces the key that equals `k` by `k`, and returns it. Its value stays.
     ///
-    /// O(log n): one descent. The summaries above the key are computed anew. Only they can
+    /// O(log n): one descent. The summaries above the key are computed again. Only they can
     /// allocate, so without summaries the call never fails for a key that is present. If no key
     /// equals `k`, or if an allocation fails, the error returns `k`, and the tree is unchanged,
     /// node by node.

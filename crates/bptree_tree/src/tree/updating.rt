@@ -85,7 +85,7 @@ impl<S: NodeStore> BPlusTree<S> {
     }
 
     /// Changes the value of each pair whose key is at least `lo` and below `hi` by a closure, in
-    /// the order of the keys. `None` stands for no bound. Keys and summaries are unchanged.
+    /// the order of the keys. `None` means no bound. Keys and summaries are unchanged.
     ///
     /// O(log n + m) for m pairs. It allocates nothing and cannot fail.
     pub fn update_range<'b, F: FnMut(&S::K, &mut S::V)>(

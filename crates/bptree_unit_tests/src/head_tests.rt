@@ -1,7 +1,8 @@
 //! Heads that were computed by hand, and the order of strings whose heads agree or differ.
 
-use crate::head::{HasHead, head_of};
-use crate::headed::Headed;
+use bptree_heads::head::{HasHead, head_of};
+use bptree_heads::headed::Headed;
+use bptree_keys::key::Key;
 use std::alloc::{AllocError, Global};
 
 const HEADS: [(&str, u64); 8] = [
@@ -80,9 +81,18 @@ fn pairs_have_heads(alloc: Global) -> Result<bool, AllocError> {
     Ok(one.head() == 0x6162_6364_6566_6768 && one < other && other < later && one != other)
 }
 
+// Keys are compared in place unless the heads of the first and the last are equal.
+fn are_compared_by_heads(alloc: Global) -> Result<bool, AllocError> {
+    let first = headed(alloc, "abcdefgha")?;
+    let same = headed(alloc, "abcdefghb")?;
+    let other = headed(alloc, "abcdefgi")?;
+    Ok(!first.compares_in_place(&same) && first.compares_in_place(&other))
+}
+
 #[test]
 fn heads_are_as_computed(rt: HostRuntime) {
     assert!(rt; has_heads());
+    assert!(rt; are_compared_by_heads(rt.alloc()) == Ok(true));
 }
 
 #[test]
