@@ -17,6 +17,10 @@ use bptree_stores::node_stores::NodeStore;
 use std::alloc::{AllocError, Global};
 use std::vec::IntoIter;
 
+// The number of pairs of a loaded leaf. The rest of its room is for insertions, so that the first ones
+// after a load split no leaf.
+const LOADED: usize = LEAF_CAPACITY - LEAF_CAPACITY / 16;
+
 // A leaf that is in no store yet, with a clone of its first key and a summary of its keys.
 #[derive(Drop)]
 struct Filled<K, V, A> {
@@ -101,7 +105,8 @@ fn add_leaf<S: NodeStore>(
 }
 
 /// Builds the leaves of ascending pairs in an empty store, with the links between them. It moves
-/// each pair once, and stores each leaf once.
+/// each pair once, and stores each leaf once. Up to 64 pairs are one leaf. Otherwise each leaf gets
+/// 60 pairs, but for the last one or two.
 pub fn build_leaves<S: NodeStore>(
     store: &mut S,
     pairs: Vec<(S::K, S::V)>,
@@ -117,7 +122,7 @@ pub fn build_leaves<S: NodeStore>(
     let mut prev = None;
     let mut id = store.reserve_leaf()?;
     'leaves: while left > LEAF_CAPACITY {
-        let count = first_of_layer(left, LEAF_CAPACITY, LEAF_MINIMUM);
+        let count = first_of_layer(left, LOADED, LEAF_MINIMUM);
         let next = add_leaf(store, &mut layer, &mut items, count, id, prev)?;
         prev = Some(id);
         id = next;

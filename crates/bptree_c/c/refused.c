@@ -133,9 +133,9 @@ static size_t list_dict(const bptree_dict *dict, uint8_t *bytes, bptree_record *
     return many;
 }
 
-/* So many of the call's allocations are for what it can do without. */
-static void refuse_each_of_dict(int hints, bptree_dict *dict, bptree_result (*call)(bptree_dict *), const char *what) {
-    for (long request = 0;; request++) {
+/* Each of the call's allocations, from one on, fails in turn. The call can do without so many of these. */
+static void refuse_each_from(long request, int hints, bptree_dict *dict, bptree_result (*call)(bptree_dict *), const char *what) {
+    for (;; request++) {
         size_t many = list_dict(dict, bytes_before, records_before);
         long were = refusals;
         blank();
@@ -155,6 +155,10 @@ static void refuse_each_of_dict(int hints, bptree_dict *dict, bptree_result (*ca
         must(!memcmp(bytes_before, bytes_after, many * 4), what);
         must(!memcmp(records_before, records_after, many * sizeof *records_before), what);
     }
+}
+
+static void refuse_each_of_dict(int hints, bptree_dict *dict, bptree_result (*call)(bptree_dict *), const char *what) {
+    refuse_each_from(0, hints, dict, call, what);
 }
 
 static void refuse_clone_of_dict(const bptree_dict *dict) {
@@ -213,7 +217,8 @@ static void dict_of_strings(void) {
         /* (the copy of a key that is there is not needed) */
         refuse_each_of_dict(1, &dict, put_name, "put of a string that is there");
     }
-    for (size_t i = 0; i < 200; i++) name_it(i), refuse_each_of_dict(0, &dict, del_name, "del of a string");
+    /* (the copy of the key is the first allocation: a removal does without it, and then the key is gone) */
+    for (size_t i = 0; i < 200; i++) name_it(i), refuse_each_from(i % 2, 1 - i % 2, &dict, del_name, "del of a string");
     for (place = 300; place > 0; place--) refuse_each_of_dict(0, &dict, remove_place, "remove_at of strings");
     must(bptree_dict_len(&dict) == STRINGS - 500, "removals of strings");
     for (size_t i = 0; i < 45; i++) refuse_each_of_dict(0, &dict, pop_first_name, "pop_first of strings");
@@ -228,10 +233,10 @@ static void dict_of_strings(void) {
     must(bptree_dict_len(&dict) == STRINGS, "load of strings");
     refuse_each_of_dict(0, &dict, clear_dict, "clear of strings");
     must(bptree_dict_len(&dict) == 0, "clear of a map of strings");
-    /* An empty map allocates nothing for what is not there. */
+    refuse_each_of_dict(1, &dict, del_name, "del of no string");
+    /* An empty map allocates nothing else for what is not there. */
     long were = refusals;
     place = 0;
-    refuse_each_of_dict(0, &dict, del_name, "del of no string");
     refuse_each_of_dict(0, &dict, remove_place, "remove_at of no string");
     refuse_each_of_dict(0, &dict, pop_first_name, "pop_first of no string");
     refuse_each_of_dict(0, &dict, pop_last_name, "pop_last of no string");

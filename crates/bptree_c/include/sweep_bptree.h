@@ -11,8 +11,8 @@
 #include <stddef.h>
 #include <stdint.h>
 
-#define SWEEP_BPTREE_VERSION "0.8.0"
-#define SWEEP_BPTREE_VERSION_NUMBER 8000
+#define SWEEP_BPTREE_VERSION "0.8.1"
+#define SWEEP_BPTREE_VERSION_NUMBER 8001
 
 #ifdef __cplusplus
 extern "C" {

@@ -228,9 +228,14 @@ fn replace_in(dict: &mut Dict, key: &[u8], new: u64) -> Result<Option<u64>, Allo
 
 /// Removes the pair at a key. It returns 1 if there was one, whose value is then in `old`, and 0 if
 /// not. It returns 2 if a copy of a key fails, which a node may need; then the map is unchanged.
-/// The call never fails for an absent key. At 0 and 2 `old` is unchanged.
+/// The call never fails for an absent key. At 0 and 2 `old` is unchanged. O(log n).
 #[unsafe(no_mangle)]
-pub extern "C" fn bptree_dict_del(dict: &mut DictHandle, key: &[u8], old: &mut u64) -> u32
+pub extern "C" fn bptree_dict_del(
+    alloc: Global,
+    dict: &mut DictHandle,
+    key: &[u8],
+    old: &mut u64,
+) -> u32
     ghost pairs: { Pairs }
     requires open { dict.old.held ≡ Some pairs }
     ensures codes { result ≤ 2 }
@@ -240,15 +245,20 @@ pub extern "C" fn bptree_dict_del(dict: &mut DictHandle, key: &[u8], old: &mut u
     ensures unchanged { result ≢ 1 → old.new ≡ old.old }
     ensures infallible { has by_bytes pairs key.now ≡ false → result ≡ 0 }
 {
-    removed_value(del_in(dict.peek(), key), old)
+    removed_value(del_in(alloc, dict.peek(), key), old)
 }
 
-fn del_in(dict: &mut Dict, key: &[u8]) -> Result<Option<u64>, AllocError>
+// The key is copied first, so that one descent finds and removes it. If the copy fails, the key is
+// removed by its rank, with two descents.
+fn del_in(alloc: Global, dict: &mut Dict, key: &[u8]) -> Result<Option<u64>, AllocError>
     ensures ok { IfOk result (Removes by_bytes key.now dict.old dict.new) }
     ensures absent { has by_bytes dict.old key.now ≡ false → result ≡ Ok None }
     ensures unchanged { OnErr result (dict.new ≡ dict.old) }
 {
-    remove_by(&mut dict.pairs, &View::of(key))
+    match Bytes::copy_of(alloc, key) {
+        Ok(own) => dict.pairs.remove(&own),
+        Err(_) => remove_by(&mut dict.pairs, &View::of(key)),
+    }
 }
 
 // Returns whether there is a pair. If there is one, its key is copied and its value written.

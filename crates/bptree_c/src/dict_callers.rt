@@ -96,13 +96,13 @@ fn replaced_or_same(alloc: Global, dict: &mut DictHandle, key: &[u8], new: u64) 
     bptree_dict_put(alloc, dict, key, new, &mut old) == 4 || old == 5
 }
 
-fn deleted_or_same(dict: &mut DictHandle, key: &[u8]) -> bool
+fn deleted_or_same(alloc: Global, dict: &mut DictHandle, key: &[u8]) -> bool
     ghost pairs: { Pairs }
     requires open { dict.old.held ≡ Some pairs }
     ensures { result ≡ true }
 {
     let mut old = 5;
-    bptree_dict_del(dict, key, &mut old) == 1 || old == 5
+    bptree_dict_del(alloc, dict, key, &mut old) == 1 || old == 5
 }
 
 fn removed_or_same(dict: &mut DictHandle, index: usize) -> bool

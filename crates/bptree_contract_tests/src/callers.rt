@@ -15,6 +15,7 @@ mod moves;
 mod nodes;
 mod owning;
 mod pages;
+mod probes;
 mod queries;
 mod ranges;
 mod reads;

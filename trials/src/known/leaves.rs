@@ -21,7 +21,7 @@ pub fn all() -> Vec<Case> {
         all.push(Case::new(&name("cleared as new"), kind, as_new));
     }
     for kind in TREES.into_iter().chain(OTHERS) {
-        let name = format!("full nodes, {}", Kind(kind).name());
+        let name = format!("loaded nodes, {}", Kind(kind).name());
         all.push(Case::new(&name, kind, loaded));
     }
     all.push(Case::new("few numbers for many pairs", 0, few_numbers));
@@ -130,23 +130,25 @@ fn rows(talk: &mut Talk) -> Outcome {
 }
 
 /// How many pairs there are and how many equal keys follow each first one. Then come the number of
-/// full leaves, the sizes of the others, and how many children the nodes below the root have. If
-/// these are not named, there are no inner nodes below the root.
+/// leaves of 60 pairs, the sizes of the others, and how many children the nodes below the root have.
+/// If these are not named, there are no inner nodes below the root.
 type Load = (u64, u64, usize, &'static [usize], &'static [usize]);
 
-const LOADS: [Load; 9] = [
+const LOADS: [Load; 10] = [
     (0, 0, 0, &[0], &[]),
     (8, 1, 0, &[4], &[]),
+    (64, 0, 0, &[64], &[]),
     (65, 0, 0, &[33, 32], &[]),
-    (79, 0, 0, &[40, 39], &[]),
-    (80, 0, 1, &[16], &[]),
-    (10_000, 0, 156, &[16], &[65, 65, 27]),
-    (4161, 0, 64, &[33, 32], &[33, 33]),
-    (5184, 0, 81, &[], &[41, 40]),
-    (5248, 0, 82, &[], &[65, 17]),
+    (75, 0, 0, &[38, 37], &[]),
+    (76, 0, 1, &[16], &[]),
+    (10_000, 0, 166, &[40], &[65, 65, 37]),
+    (3905, 0, 64, &[33, 32], &[33, 33]),
+    (4860, 0, 81, &[], &[41, 40]),
+    (4920, 0, 82, &[], &[65, 17]),
 ];
 
-// Nodes are as full as they can be. Of equal keys the last pair is kept.
+// Each leaf has 60 pairs, but for the last one or two, and inner nodes are as full as they can be. Of
+// equal keys the last pair is kept.
 fn loaded(talk: &mut Talk) -> Outcome {
     for (many, more, full, last, below) in LOADS {
         if more > 0 && !talk.model.kind.is_counted() {
@@ -154,7 +156,7 @@ fn loaded(talk: &mut Talk) -> Outcome {
         }
         talk.ask(&[calls::load(many, more), calls::iter()])?;
         let nodes = talk.nodes()?;
-        let mut lengths = vec![64; full];
+        let mut lengths = vec![60; full];
         lengths.extend(last);
         let found: Vec<usize> = nodes.leaves.iter().map(Vec::len).collect();
         check(found == lengths, || {

@@ -11,6 +11,10 @@ fn drawn(seed: u64, of: u64) -> u64 {
     mixed(mixed(0, seed), of)
 }
 
+/// How many pairs a loaded leaf has, and how many more it has room for.
+const LOADED: u64 = 60;
+const ROOM: u64 = 4;
+
 /// How a tree is made, and what its lists do.
 #[derive(Clone, Copy, PartialEq, Eq)]
 enum Base {
@@ -18,7 +22,8 @@ enum Base {
     Empty,
     /// It has two leaves, which are emptied and filled again.
     Low,
-    /// Its height is 2 and its leaves are full, so that each takes no pair before it is split.
+    /// Its height is 2 and all leaves but the last two are full, so that each takes no pair before it
+    /// is split.
     Full,
     /// Its height is 2, its leaves are as short as they can be, and each node above them has one
     /// child more than it needs.
@@ -41,8 +46,8 @@ impl Base {
         match self {
             Base::Empty => 0,
             Base::Low => 100,
-            Base::Full => 4161,
-            Base::Short => 4224,
+            Base::Full => 3905,
+            Base::Short => 3960,
         }
     }
 
@@ -59,7 +64,7 @@ impl Base {
     fn bound(self) -> u64 {
         match self {
             Base::Empty | Base::Low => 400,
-            Base::Full | Base::Short => 16_900,
+            Base::Full | Base::Short => 15_900,
         }
     }
 
@@ -90,7 +95,7 @@ impl Base {
             Base::Full => turn % 33,
             Base::Short => (turn * 6 + 1) % 30,
         };
-        let place = leaf * 64 + word % 16;
+        let place = leaf * LOADED + word % 16;
         let more = if self == Base::Full {
             1 + word / 16 % 3
         } else {
@@ -99,16 +104,29 @@ impl Base {
         place * 4 + more
     }
 
+    // Each leaf of 60 pairs is filled: 3905 pairs have 64 such leaves, and the last two share 65 pairs.
+    fn fill(self) -> Vec<Step> {
+        if self != Base::Full {
+            return Vec::new();
+        }
+        let place = |leaf: u64, more: u64| leaf * LOADED + 20 + more;
+        let places = (0..self.many() / LOADED - 1)
+            .flat_map(|leaf| (0..ROOM).map(move |more| place(leaf, more)));
+        places
+            .map(|place| quiet(calls::insert(place * 4 + 1, 0)))
+            .collect()
+    }
+
     // Of each leaf 16 pairs are kept; and then each second leaf is emptied, up to three of the 33
     // below each node.
     fn shorten(self) -> Vec<Step> {
         if self != Base::Short {
             return Vec::new();
         }
-        let longer = (0..self.many()).filter(|place| place % 64 >= 16);
+        let longer = (0..self.many()).filter(|place| place % LOADED >= 16);
         let second = (0..self.many()).filter(|place| {
-            let leaf = place / 64 % 33;
-            place % 64 < 16 && leaf < 30 && leaf % 2 == 0
+            let leaf = place / LOADED % 33;
+            place % LOADED < 16 && leaf < 30 && leaf % 2 == 0
         });
         let gone = longer.chain(second);
         gone.map(|place| quiet(calls::remove(place * 4))).collect()
@@ -219,6 +237,7 @@ fn commands(base: Base) -> Vec<Step> {
         calls::new()
     };
     let mut steps = vec![quiet(load)];
+    steps.extend(base.fill());
     steps.extend(base.shorten());
     for turn in 0..base.lists() {
         let list = Draw { base, turn }.list();

@@ -37,8 +37,8 @@ fn by_places() -> Vec<Step> {
     all
 }
 
-// Two pairs with keys that are there and one with a new key go to three full leaves. So two values
-// change before a leaf splits, which can fail.
+// Two pairs with keys that are there and one with a new key are added. The last leaf, which is full,
+// takes the new key. So two values change before that leaf splits, which can fail.
 fn few_added() -> Vec<Step> {
     vec![
         quiet(calls::new()),
@@ -46,7 +46,7 @@ fn few_added() -> Vec<Step> {
         quiet(calls::insert(1, 91)),
         quiet(calls::insert(500, 92)),
         quiet(calls::swap()),
-        quiet(calls::load(192, 0)),
+        quiet(calls::load(184, 0)),
         swept(call(8, 1, &[])),
     ]
 }
@@ -113,12 +113,12 @@ type Pops = (u64, &'static str, u64, &'static [(bool, u64, u64)]);
 
 const POPS: [Pops; 3] = [
     (65, "few ", 0, &[(false, 17, 2), (true, 0, 1)]),
-    (150, "", 1, &[(false, 48, 2), (true, 27, 2)]),
+    (135, "", 1, &[(false, 44, 2), (true, 21, 2)]),
     (
-        4161,
+        4145,
         "many ",
         2,
-        &[(false, 48, 2), (false, 14, 1), (true, 16, 1)],
+        &[(false, 44, 2), (false, 10, 1), (true, 16, 1)],
     ),
 ];
 
@@ -212,12 +212,12 @@ fn batches_read(many: u64) -> Vec<Step> {
     all
 }
 
-// A map with the even numbers is asked for the bounds of the first key, of the 64th, which is the
-// last of a full leaf, and of the last one, each with the number behind it.
+// A map with the even numbers is asked for the bounds of the first key, of the 60th, which is the
+// last of the first leaf if there are many, and of the last one, each with the number behind it.
 fn bounded(many: u64) -> Vec<Step> {
     let last = (many - 1) * 2;
     let mut all = vec![quiet(calls::load(many, 2))];
-    for number in [0, 1, 126, 127, last, last + 1] {
+    for number in [0, 1, 118, 119, last, last + 1] {
         all.push(swept(call(4, 3, &[number])));
         all.push(swept(call(4, 4, &[number])));
     }
@@ -228,7 +228,7 @@ fn bounded(many: u64) -> Vec<Step> {
 // and loses its first pairs, one by its key, and the last one.
 fn pointed(many: u64) -> Vec<Step> {
     let mut all = vec![quiet(calls::load(many, 0))];
-    let gone = if many > 64 { 48 } else { 0 };
+    let gone = if many > 64 { 44 } else { 0 };
     all.extend((0..gone).map(|_| quiet(call(9, 4, &[0]))));
     for _ in 0..6 {
         all.push(swept(call(9, 8, &[5])));
@@ -339,7 +339,7 @@ pub fn all(sort: &Sort) -> Vec<Scenario> {
         let many = if many == 150 { 400 } else { many };
         let end = format!(", {word}bounded{memory}");
         all.push(scenario(&end, bounded(many)).ending(many as usize));
-        let left = many as usize - 8 - if many > 64 { 48 } else { 0 };
+        let left = many as usize - 8 - if many > 64 { 44 } else { 0 };
         let end = format!("{}, {word}pointed at{memory}", sort.counted_keys);
         all.push(Scenario::new(&end, sort.counted, pointed(many)).ending(left));
     }

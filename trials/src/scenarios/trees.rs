@@ -48,9 +48,9 @@ fn full_leaf() -> Vec<Step> {
 
 // The last pair is removed, again and again, till the height falls.
 fn downward(first: u64, bound: u64) -> Vec<Step> {
-    let mut steps = vec![quiet(calls::load(4161, 0)).leaving_height(2)];
+    let mut steps = vec![quiet(calls::load(3905, 0)).leaving_height(2)];
     let leave = |turn: u64| {
-        let record = last_leaves(4160 - turn);
+        let record = last_leaves(3904 - turn);
         let step = if turn < first {
             quiet(record)
         } else {
@@ -63,7 +63,7 @@ fn downward(first: u64, bound: u64) -> Vec<Step> {
     steps
 }
 
-// A full tree takes one pair more, and is a level higher.
+// A tree whose inner nodes and whose last leaf are full takes one pair more, and is a level higher.
 fn full_root(many: u64, height: u64) -> Vec<Step> {
     vec![
         quiet(calls::load(many, 0)).leaving_height(height),
@@ -71,11 +71,11 @@ fn full_root(many: u64, height: u64) -> Vec<Step> {
     ]
 }
 
-// More pairs are put behind the last, till the last leaf is split.
+// More pairs are put behind the last, till the last leaf, which has 32 pairs at first, is split.
 fn upward() -> Vec<Step> {
-    let mut steps = vec![quiet(calls::load(4161, 0)).leaving_height(2)];
+    let mut steps = vec![quiet(calls::load(4145, 0)).leaving_height(2)];
     steps.extend((0..35).map(|turn| {
-        let record = calls::insert(turn + 4161, turn);
+        let record = calls::insert(turn + 4145, turn);
         if turn < 30 {
             quiet(record)
         } else {
@@ -200,21 +200,21 @@ pub fn all(sort: &Sort) -> Vec<Scenario> {
     let scenario = |end: &str, steps| Scenario::new(&format!("{name}{end}"), kind, steps);
     // A key that takes memory makes each removal take some, so that few of them are swept.
     let (down, first) = if sort.takes_memory() {
-        (", downward near the end", 1961)
+        (", downward near the end", 1837)
     } else {
         (", downward, without memory", 1)
     };
     let clones = Scenario::new(&format!("{}, clones", sort.keys), sort.plain, cloned());
     let walked_end = format!(", walked{}", sort.quiet_summary());
     vec![
-        scenario(", full root, high", full_root(270_400, 2)).ending(270_401),
-        scenario(", a rotation, high", high(270_401, 1026)).ending(269_372),
-        scenario(", a merge, high", high(270_401, 2049)).ending(268_349),
+        scenario(", full root, high", full_root(253_504, 2)).ending(253_505),
+        scenario(", a rotation, high", high(253_505, 962)).ending(252_540),
+        scenario(", a merge, high", high(253_505, 1921)).ending(251_581),
         scenario(", full leaf", full_leaf()).ending(65),
-        scenario(", full root", full_root(4160, 1)).ending(4161),
+        scenario(", full root", full_root(3904, 1)).ending(3905),
         scenario(", emptied", emptied()).ending(0),
-        scenario(", upward", upward()).ending(4196),
-        scenario(down, downward(first, 4161)).ending_within(65, 4159),
+        scenario(", upward", upward()).ending(4180),
+        scenario(down, downward(first, 3905)).ending_within(65, 3903),
         scenario(", loaded", loaded(4161, 2)).ending(4161),
         scenario(", few loaded", loaded(400, 1)).ending(400),
         scenario(", cleared", cleared()).ending(0),

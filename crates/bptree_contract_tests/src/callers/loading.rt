@@ -13,37 +13,30 @@ use bptree_stores::node_stores::NodeStore;
 use bptree_tree::BPlusTree;
 use std::alloc::AllocError;
 
-// The number of pairs in the first leaf of this many pairs.
+// The number of pairs in the first leaf of more than 64 pairs.
 fn first_leaf(pairs: usize) -> usize
-    ensures { result ≡ first_of pairs 64 16 }
+    ensures { result ≡ first_of pairs 60 16 }
 {
-    first_of_layer(pairs, 64, 16)
+    first_of_layer(pairs, 60, 16)
 }
 
-// Up to 64 pairs are one leaf, and 65 pairs are shared between two. Of 4161 pairs the last two
-// leaves share the 65 pairs behind 64 full leaves.
-fn one_leaf_or_two() -> (usize, usize, usize, usize, usize)
-    ensures { result ≡ (1, 64, 33, 32, 64) }
+// 65 pairs are shared between two leaves. Of 3905 pairs the last two leaves share the 65 pairs behind
+// 64 leaves of 60 pairs.
+fn two_leaves_or_more() -> (usize, usize, usize)
+    ensures { result ≡ (33, 60, 65) }
 {
     (
-        first_leaf(1),
-        first_leaf(64),
         first_leaf(65),
-        first_leaf(32),
-        first_leaf(4161),
+        first_leaf(3905),
+        3905 - 64 * first_leaf(3905),
     )
 }
 
-// Up to 79 pairs are shared between two leaves. From 80 pairs on the first leaf is full.
-fn shared_or_full() -> (usize, usize, usize, usize)
-    ensures { result ≡ (40, 39, 64, 16) }
+// Up to 75 pairs are shared between two leaves. From 76 pairs on the first leaf gets 60.
+fn shared_or_not() -> (usize, usize)
+    ensures { result ≡ (38, 60) }
 {
-    (
-        first_leaf(79),
-        first_leaf(39),
-        first_leaf(80),
-        first_leaf(16),
-    )
+    (first_leaf(75), first_leaf(76))
 }
 
 // Up to 81 children are shared between two nodes. From 82 children on the first node is full.
