@@ -54,9 +54,10 @@ pub fn raise_all<S: NodeStore>(
 
 /// Builds a tree of ascending pairs in an empty store.
 ///
-/// Each node takes as many pairs or children as it has room for. Only the last two nodes of a layer
-/// share what is left, if the last would have too few. It takes O(n) steps, moves each pair once
-/// and clones one key of each leaf. If an allocation fails, the pairs and the store are dropped.
+/// While more than 64 pairs are left, a leaf takes 60 of them. An inner node takes as many children
+/// as it has room for. Only the last two nodes of a layer share what is left, if the last would have
+/// too few. It takes O(n) steps, moves each pair once and clones one key of each leaf. If an
+/// allocation fails, the pairs and the store are dropped.
 pub fn build<S: NodeStore>(store: S, pairs: Vec<(S::K, S::V)>) -> Result<Nodes<S>, AllocError>
     requires empty { IsEmpty (S.slots store) }
     requires ascending { IsAscending S.K.cmp pairs.items }

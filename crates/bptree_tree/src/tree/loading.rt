@@ -15,9 +15,10 @@ impl<S: NodeStore> BPlusTree<S> {
     /// allocator. Of each run of pairs with equal keys the last stays, and the others are dropped.
     ///
     /// It compares each key with the next, and no other keys. It moves each pair once into a leaf,
-    /// and clones one key of each leaf. Each node is as full as it can be, except for the last two
-    /// of a layer if the last would have too little: these share what is left. A failure drops the
-    /// pairs and what was built of them.
+    /// and clones one key of each leaf. While more than 64 pairs are left, a leaf gets 60 of them, so
+    /// that it has room for insertions. Inner nodes are full. The last two nodes of a layer share
+    /// what is left if the last would have too little. A failure drops the pairs and what was built
+    /// of them.
     ///
     /// O(n) for n pairs. It fails only if an allocation, a clone of a key or a summary fails.
     pub fn bulk_load(mut pairs: Vec<(S::K, S::V)>) -> Result<Self, AllocError>
