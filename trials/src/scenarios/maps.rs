@@ -197,7 +197,7 @@ fn batches_put(many: u64) -> Vec<Step> {
     all
 }
 
-// A map with counts is asked for 17 keys or indexes at once, of which eight are past the last pair.
+// Reads of 17 keys or indexes at once in a map with counts. Eight of them are past the last pair.
 fn batches_read(many: u64) -> Vec<Step> {
     let batch = Batch {
         many: 17,
@@ -212,8 +212,8 @@ fn batches_read(many: u64) -> Vec<Step> {
     all
 }
 
-// A map with the even numbers is asked for the bounds of the first key, of the 60th, which is the
-// last of the first leaf if there are many, and of the last one, each with the number behind it.
+// The bounds of three keys of a map with the even numbers: of the first key, of the 60th, which is
+// the last one of the first leaf if there are many, and of the last key, each with the next number.
 fn bounded(many: u64) -> Vec<Step> {
     let last = (many - 1) * 2;
     let mut all = vec![quiet(calls::load(many, 2))];
@@ -239,7 +239,7 @@ fn pointed(many: u64) -> Vec<Step> {
     all
 }
 
-/// The ranges of keys that summaries and counts are asked of.
+/// The ranges of keys whose summaries and counts are read.
 const RANGES: [(Option<u64>, Option<u64>); 8] = [
     (None, None),
     (Some(20), None),
@@ -257,7 +257,7 @@ pub fn range((lo, hi): (Option<u64>, Option<u64>)) -> [u64; 4] {
     [lo.unwrap_or(0), hi.unwrap_or(0), 0, bits]
 }
 
-// Maps of three heights are asked for summaries of their parts.
+// Summaries of parts of maps of three heights.
 fn summed() -> Vec<Step> {
     let mut all = Vec::new();
     for (many, height) in [(40, 0), (400, 1), (5000, 2)] {
@@ -270,7 +270,7 @@ fn summed() -> Vec<Step> {
     all
 }
 
-// Maps of three heights with counts are asked for the lengths of their parts, and for pages.
+// Lengths of parts, and pages, of maps of three heights with counts.
 fn counted() -> Vec<Step> {
     let mut all = Vec::new();
     for (many, height) in [(40, 0), (400, 1), (5000, 2)] {
@@ -289,7 +289,7 @@ fn counted() -> Vec<Step> {
     all
 }
 
-// A map is asked for the second group, and pages of it.
+// Reads of the second group of a map, and of pages of it.
 fn asked() -> Vec<Step> {
     let asks = [
         call(10, 3, &[200]),
