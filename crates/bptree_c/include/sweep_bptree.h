@@ -175,7 +175,8 @@ bool bptree_dict_rank(const bptree_dict *dict, const uint8_t *key, size_t n, siz
    fails for a key that is there. */
 bptree_result bptree_dict_put(bptree_dict *dict, const uint8_t *key, size_t n, uint64_t value, uint64_t *old);
 /* BPTREE_REMOVED with the value in *old, BPTREE_ABSENT, or BPTREE_NO_MEMORY: a removal can copy a
-   key that stays. The call never fails for a key that is absent. */
+   key that stays. The call never fails for a key that is absent. It copies the key to descend once;
+   if that copy fails, it descends twice. */
 bptree_result bptree_dict_del(bptree_dict *dict, const uint8_t *key, size_t n, uint64_t *old);
 /* These calls copy as many bytes of a pair's key as fit into an array of `room` bytes, with no 0
    behind them, and write the key's whole length to *len and the value to *value: if *len is more

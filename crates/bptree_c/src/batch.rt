@@ -9,7 +9,18 @@ ghost use Rattle.bptree_map.specs.Many.{without_each};
 
 use crate::handle::{Handle, Map};
 use crate::writing::del_in;
+use bptree_arguments::count::Count;
 use bptree_batches::many::{copy_index_many, copy_many, mark_many, read_ahead};
+use bptree_invariant::nodes::Nodes;
+use bptree_stores::node_store_vec::NodeStoreVec;
+
+// The nodes of a map. One function returns them, since each that calls a function of the tree's
+// store is expensive to prove.
+fn nodes_of(map: &Map) -> &Nodes<NodeStoreVec<u64, u64, Count>>
+    ensures { result.now.contents ≡ map.now }
+{
+    map.pairs.tree().nodes()
+}
 
 /// Writes the value at each given key to `values` at the key's index, and 1 to `found` there. For
 /// an absent key `values` is unchanged, and `found` gets 0. Each array has the length of `keys`.
@@ -31,7 +42,7 @@ pub extern "C" fn bptree_get_many(
     ensures values { values.new ≡ read_each nat_cmp pairs keys.now values.old }
     ensures found { found.new ≡ mark_each nat_cmp pairs 1 0 keys.now }
 {
-    copy_many(map.peek().pairs.tree().nodes(), keys, values, found, 1, 0);
+    copy_many(nodes_of(map.peek()), keys, values, found, 1, 0);
 }
 
 /// Writes 1 to `found` for each given key that is present, at the key's index, and 0 for each other
@@ -44,7 +55,7 @@ pub extern "C" fn bptree_contains_many(map: &mut Handle, keys: &[u64], found: &m
     ensures kept { map.new.held ≡ Some pairs }
     ensures found { found.new ≡ mark_each nat_cmp pairs 1 0 keys.now }
 {
-    mark_many(map.peek().pairs.tree().nodes(), keys, found, 1, 0);
+    mark_many(nodes_of(map.peek()), keys, found, 1, 0);
 }
 
 /// Writes for each given key the number of smaller keys of the map to `ranks`, which has the length
@@ -83,7 +94,7 @@ pub extern "C" fn bptree_at_many(
     ensures values { values.new ≡ values_at_each pairs indexes.now values.old }
     ensures found { found.new ≡ mark_at_each pairs 1 0 indexes.now }
 {
-    let nodes = map.peek().pairs.tree().nodes();
+    let nodes = nodes_of(map.peek());
     copy_index_many(nodes, indexes, keys, values, found, 1, 0);
 }
 
@@ -139,7 +150,7 @@ fn del_all(map: &mut Map, keys: &[u64], found: &mut [u8])
     let mut at = 0;
     let mut ahead = 0;
     while at < keys.len() {
-        ahead = read_ahead(map.pairs.tree().nodes(), keys, at, ahead);
+        ahead = read_ahead(nodes_of(map), keys, at, ahead);
         found[at] = del_mark(map, keys[at]);
         at += 1;
     }

@@ -19,7 +19,6 @@ use groups::Pair;
 use numbers::{Numbers, next_number, numbers_below, odd_numbers, shuffle, shuffled};
 use ordered::Mapped;
 use std::collections::BTreeMap;
-use strings::Form;
 use sweep_bptree::argument::CloneArgument;
 use sweep_bptree::{
     BPlusTree, CloneStore, Count, GroupCount, Headed, NodeStoreVec, RankArgument, SearchArgument,
@@ -34,9 +33,7 @@ fn take_plain<S: CloneStore<K = u64, V = u64>>(report: Report<'_>, numbers: Numb
 where
     S::Argument: CloneArgument<u64>,
 {
-    ordered::take::<BPlusTree<S>>(report, numbers)
-        && ordered::fill_upward::<BPlusTree<S>>(report, numbers)
-        && loaded::take::<S>(report, numbers)
+    ordered::take::<BPlusTree<S>>(report, numbers) && loaded::take::<S>(report, numbers)
 }
 
 // Times all calls on trees with counts.
@@ -52,28 +49,15 @@ where
 
 type Headeds = NodeStoreVec<Headed<String>, u64>;
 
-// Times strings whose first bytes differ, and strings whose first ten bytes are equal, with and
-// without heads.
+// Times strings with and without heads.
 fn take_strings(plain: Report<'_>, kit: Report<'_>, numbers: Numbers<'_>) -> bool {
-    let text = Form {
-        front: "",
-        insert: "text-insert",
-        get: "text-get",
-    };
-    let alike = Form {
-        front: "alikealike",
-        insert: "alike-insert",
-        get: "alike-get",
-    };
     let head = Report {
         rt: plain.rt,
         kind: "head",
     };
-    strings::take::<String, BPlusTree<NodeStoreVec<String, u64>>>(plain, text, numbers)
-        && strings::take::<Headed<String>, BPlusTree<Headeds>>(head, text, numbers)
-        && strings::take::<String, BTreeMap<String, u64>>(kit, text, numbers)
-        && strings::take::<String, BPlusTree<NodeStoreVec<String, u64>>>(plain, alike, numbers)
-        && strings::take::<Headed<String>, BPlusTree<Headeds>>(head, alike, numbers)
+    strings::take::<String, BPlusTree<NodeStoreVec<String, u64>>>(plain, numbers)
+        && strings::take::<Headed<String>, BPlusTree<Headeds>>(head, numbers)
+        && strings::take::<String, BTreeMap<String, u64>>(kit, numbers)
 }
 
 // Times all calls on each of the trees, on maps and on sets.
@@ -86,7 +70,6 @@ fn round(rt: &HostRuntime, numbers: Numbers<'_>) -> bool {
         && take_plain::<PlainStore>(plain, numbers)
         && take_counted::<NodeStoreVec<u64, u64, Count>>(count, numbers)
         && ordered::take::<BTreeMap<u64, u64>>(kit, numbers)
-        && ordered::fill_upward::<BTreeMap<u64, u64>>(kit, numbers)
         && take_strings(plain, kit, numbers)
         && maps::take(plain, numbers)
         && moves::take(plain, numbers)

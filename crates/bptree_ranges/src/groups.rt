@@ -37,7 +37,7 @@ pub fn part_of_group<S: NodeStore, G: FromRef<S::K> + Key>(
 ///
 /// It makes two descents, one to the first of these pairs and one to the end of the group. They
 /// compute the groups of at most 7 keys or separators of each node. If the summaries determine how
-/// many keys they stand for, the pairs before the first one cost no step. Otherwise it walks over
+/// many keys they cover, the pairs before the first one cost no step. Otherwise it walks over
 /// them.
 pub fn part_within_group<S: NodeStore, G: FromRef<S::K> + Key>(
     tree: &Nodes<S>,

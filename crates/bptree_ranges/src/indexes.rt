@@ -1,4 +1,4 @@
-//! Positions in a tree, found by the summaries that determine how many keys they stand for.
+//! Positions in a tree, found by the summaries that determine how many keys they cover.
 ghost use Rattle.std.specs.Prelude.{◌≤◌, IfOk, IfSome};
 ghost use Rattle.bptree_ranges.specs.InTree.{HasIndexOfGroup};
 ghost use Rattle.bptree_ranges.specs.Indexes.{IsSkippedFrom, SkipsInto};
@@ -29,7 +29,7 @@ pub(crate) enum Skipped {
 ///
 /// It makes one descent to the start of the group, and computes the groups of at most 7 keys or
 /// separators of each node. On the way back up it passes children by their summaries, if these
-/// determine how many keys they stand for, and goes down into one that has more than are to be
+/// determine how many keys they cover, and goes down into one that has more than are to be
 /// passed. If the summaries do not determine that, it goes down into each child on the way.
 pub(crate) fn index_in_group<S: NodeStore, G: FromRef<S::K> + Key>(
     tree: &Nodes<S>,
@@ -116,7 +116,7 @@ fn skip<S: NodeStore>(store: &S, id: NodeId, height: usize, first: usize, i: usi
     }
 }
 
-// Returns how many keys a summary stands for, if it determines that and they are at most `most`.
+// Returns how many keys a summary covers, if it determines that and they are at most `most`.
 fn count_within<K: Key, A: Argument<K>>(argument: &A, most: usize) -> Option<usize>
     ensures within { IfSome result (λ n. n ≤ most) }
     ensures reported { ReportsLength (A.is_summary argument.now) result }

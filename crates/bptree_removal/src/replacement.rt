@@ -67,7 +67,7 @@ fn replace_in_place<S: NodeStore>(
 /// `find_entry` returns the position, and leaves in `path` the inner nodes on the way there. The
 /// value stays.
 ///
-/// O(log n) steps. It computes the summaries above the leaf anew, and only these can allocate. If
+/// O(log n) steps. It recomputes the summaries above the leaf, and only these can allocate. If
 /// one fails, it returns `key`, and the tree is unchanged.
 pub fn replace_entry<S: NodeStore>(
     tree: &mut Nodes<S>,

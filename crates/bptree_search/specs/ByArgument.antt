@@ -58,7 +58,7 @@ GoesOn {K} {V} cmp slots height id path longer (Some at) =
     (pair : K × V) → slice_get (leaf_pairs (slots.leaf at.leaf.0)) at.slot ≡ Some pair → (top : ℕ) (root : NodeId) → Way cmp slots pair.0 top root path height id → Way cmp slots pair.0 top root longer 0 (kind.Leaf at.leaf)
 
 -- the result ranks k among these keys, any smaller keys before them and any greater keys behind;
--- the rank stands for those before
+-- the rank represents those before
 abbrev pub RanksAmong : {R K : Type 0} → (K → K → Ordering) → (R → K → List K → Type 0) → (K → List K → R → Type 0) → K → R → List K → Result R R → Type 0
 RanksAmong {K = K} cmp represents ranks k rank keys outcome =
     (before after : List K) → IsStrictlySortedBy cmp (before ++ (keys ++ after)) → AllBelow cmp k before → AllAbove cmp k after → length (before ++ (keys ++ after)) < 2 ^ 64 → represents rank k before

@@ -152,8 +152,8 @@ where
     rank_below(&tree.store, tree.root, tree.height, k, rank)
 }
 
-// `rank_by_argument` for the tree below a node, carried on from the rank that stands for the keys
-// before it.
+// `rank_by_argument` for the tree below a node, carried on from the rank that represents the
+// keys before it.
 fn rank_below<S: NodeStore>(
     store: &S,
     id: NodeId,

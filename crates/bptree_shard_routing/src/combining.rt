@@ -132,7 +132,7 @@ pub fn next_part(lengths: &[usize], index: usize, n: usize) -> Option<Part>
 /// The parts of a page: of at most `n` pairs of the whole, from an index on. They are in the order
 /// of the shards. Each shard that has a pair of the page has one part, and no other shard has any.
 ///
-/// O(s) for each part, for s shards: the search for each part begins anew at the first shard. It
+/// O(s) for each part, for s shards: the search for each part begins at the first shard. It
 /// allocates the list of parts, and fails if an allocation fails. The number of all pairs must fit
 /// a `usize`.
 pub fn parts(

@@ -4,6 +4,7 @@ use bptree_heads::head::{HasHead, head_of};
 use bptree_heads::headed::Headed;
 use bptree_keys::key::Key;
 use std::alloc::{AllocError, Global};
+use std::cmp::Ordering;
 
 const HEADS: [(&str, u64); 8] = [
     ("", 0),
@@ -45,6 +46,13 @@ fn headed(alloc: Global, text: &str) -> Result<Headed<String>, AllocError> {
     Ok(Headed::new(String::from_str(alloc, text)?))
 }
 
+// Whether each comparison of two keys, and of the first with a clone of the second, gives the order.
+fn compares_as<K: Key>(one: &K, other: &K, clone: &K, order: Ordering) -> bool {
+    let mut well = one.cmp(other) == order && one.cmp(clone) == order;
+    well &= (one == other) == order.is_eq();
+    well && one.partial_cmp(clone) == Some(order)
+}
+
 // Whether two strings are in the order of their indices, as they are and as clones, and have the
 // heads of their bytes.
 fn is_in_order(
@@ -52,12 +60,10 @@ fn is_in_order(
     first: (usize, &str),
     second: (usize, &str),
 ) -> Result<bool, AllocError> {
-    let order = first.0.cmp(&second.0);
     let one = headed(alloc, first.1)?;
     let other = headed(alloc, second.1)?;
     let clone = other.clone()?;
-    let mut well = one.cmp(&other) == order && one.cmp(&clone) == order;
-    well &= (one == other) == order.is_eq() && one.partial_cmp(&clone) == Some(order);
+    let mut well = compares_as(&one, &other, &clone, first.0.cmp(&second.0));
     well &= clone.head() == head_of(second.1.as_bytes());
     well &= other.key().head() == clone.head();
     Ok(well && one.into_key().as_str() == first.1)
@@ -73,12 +79,24 @@ fn are_in_order(alloc: Global) -> bool {
     well
 }
 
+fn headed_pair(
+    alloc: Global,
+    text: &str,
+    number: u64,
+) -> Result<Headed<(String, u64)>, AllocError> {
+    Ok(Headed::new((String::from_str(alloc, text)?, number)))
+}
+
+fn ascend<K: Key>(first: &K, second: &K, third: &K) -> bool {
+    first < second && second < third && first != second
+}
+
 // A pair has the head of its first part, and the second part decides if the first parts are equal.
 fn pairs_have_heads(alloc: Global) -> Result<bool, AllocError> {
-    let one = Headed::new((String::from_str(alloc, "abcdefghi")?, 2u64));
-    let other = Headed::new((String::from_str(alloc, "abcdefghi")?, 10u64));
-    let later = Headed::new((String::from_str(alloc, "b")?, 1u64));
-    Ok(one.head() == 0x6162_6364_6566_6768 && one < other && other < later && one != other)
+    let one = headed_pair(alloc, "abcdefghi", 2)?;
+    let other = headed_pair(alloc, "abcdefghi", 10)?;
+    let later = headed_pair(alloc, "b", 1)?;
+    Ok(one.head() == 0x6162_6364_6566_6768 && ascend(&one, &other, &later))
 }
 
 // Keys are compared in place unless the heads of the first and the last are equal.

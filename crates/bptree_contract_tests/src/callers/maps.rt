@@ -482,26 +482,26 @@ fn gives_keys_and_values_at_both_ends<K: Key, V: Drop, A: Argument<K>>(
     )
 }
 
-// The keys and the values of owned maps come in order from both ends.
-fn moves_two_keys_and_values<K: Key, V: Drop, A: Argument<K>>(
-    map: BPlusTreeMap<K, V, A>,
-    other: BPlusTreeMap<K, V, A>,
-) -> ((K, K, usize), (V, V, usize))
-    requires map { length (keys_of map) ≡ 2 }
-    requires other { length (values_of other) ≡ 2 }
-    ensures keys { (keys_of map ≡ result.0.0 ∷ result.0.1 ∷ []) × (result.0.2 ≡ 0) }
-    ensures values { (values_of other ≡ result.1.0 ∷ result.1.1 ∷ []) × (result.1.2 ≡ 0) }
+// The keys of an owned map come in order from both ends.
+fn moves_two_keys<K: Key, V: Drop, A: Argument<K>>(map: BPlusTreeMap<K, V, A>) -> (K, K, usize)
+    requires { length (keys_of map) ≡ 2 }
+    ensures { (keys_of map ≡ result.0 ∷ result.1 ∷ []) × (result.2 ≡ 0) }
 {
-    let (mut keys, mut values) = (map.into_keys(), other.into_values());
-    match (
-        keys.next(),
-        keys.next_back(),
-        values.next(),
-        values.next_back(),
-    ) {
-        (Some(first), Some(last), Some(low), Some(high)) => {
-            ((first, last, keys.len()), (low, high, values.len()))
-        }
+    let mut keys = map.into_keys();
+    match (keys.next(), keys.next_back()) {
+        (Some(first), Some(last)) => (first, last, keys.len()),
+        _ => unreachable!(),
+    }
+}
+
+// The values of an owned map come in the order of their keys from both ends.
+fn moves_two_values<K: Key, V: Drop, A: Argument<K>>(map: BPlusTreeMap<K, V, A>) -> (V, V, usize)
+    requires { length (values_of map) ≡ 2 }
+    ensures { (values_of map ≡ result.0 ∷ result.1 ∷ []) × (result.2 ≡ 0) }
+{
+    let mut values = map.into_values();
+    match (values.next(), values.next_back()) {
+        (Some(first), Some(last)) => (first, last, values.len()),
         _ => unreachable!(),
     }
 }

@@ -233,12 +233,19 @@ pub fn fill_upward<T: Ordered>(report: Report<'_>, numbers: Numbers<'_>) -> bool
     }
 }
 
-/// Fills a map, reads it and empties it. Returns whether no call failed.
-pub fn take<T: Ordered>(report: Report<'_>, numbers: Numbers<'_>) -> bool {
+// Fills a map, reads it and empties it.
+fn fill_read_and_empty<T: Ordered>(report: Report<'_>, numbers: Numbers<'_>) -> bool {
     match T::made(report.rt.alloc()) {
         Ok(mut map) => {
             fill_and_read(report, &mut map, numbers) && empty(report, &mut map, numbers)
         }
         Err(_) => false,
     }
+}
+
+/// Fills a map, reads it and empties it, and fills another map in the order of the keys. Returns
+/// whether no call failed. It is one function for both, since each call that names a type of map is
+/// expensive to prove.
+pub fn take<T: Ordered>(report: Report<'_>, numbers: Numbers<'_>) -> bool {
+    fill_read_and_empty::<T>(report, numbers) && fill_upward::<T>(report, numbers)
 }

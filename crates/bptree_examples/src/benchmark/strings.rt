@@ -27,13 +27,27 @@ impl Text for Headed<String> {
     }
 }
 
-/// The keys of a run: the text before the digits of each key, and the names of the two calls.
+// The keys of a run: the text before the digits of each key, and the names of the two calls.
 #[derive(Clone, Copy)]
-pub struct Form<'a> {
-    pub front: &'a str,
-    pub insert: &'a str,
-    pub get: &'a str,
+struct Form<'a> {
+    front: &'a str,
+    insert: &'a str,
+    get: &'a str,
 }
+
+// Strings whose first bytes differ, and strings whose first ten bytes are equal.
+const FORMS: [Form<'static>; 2] = [
+    Form {
+        front: "",
+        insert: "text-insert",
+        get: "text-get",
+    },
+    Form {
+        front: "alikealike",
+        insert: "alike-insert",
+        get: "alike-get",
+    },
+];
 
 // Returns a text with the sixteen hexadecimal digits of a number behind a front.
 fn text_of(alloc: Global, front: &str, number: u64) -> Result<String, AllocError> {
@@ -100,9 +114,7 @@ fn take_wanted<K: Text, T: Mapped<K>>(
     }
 }
 
-/// Inserts the texts of the keys, and looks them up in another order. Returns whether no allocation
-/// failed.
-pub fn take<K: Text, T: Mapped<K>>(
+fn take_form<K: Text, T: Mapped<K>>(
     report: Report<'_>,
     form: Form<'_>,
     numbers: Numbers<'_>,
@@ -111,4 +123,15 @@ pub fn take<K: Text, T: Mapped<K>>(
         Ok(wanted) => take_wanted::<K, T>(report, form, numbers.keys, &wanted),
         Err(_) => false,
     }
+}
+
+/// Inserts the texts of the keys, and looks them up in another order, for strings of each form.
+/// Returns whether no allocation failed.
+pub fn take<K: Text, T: Mapped<K>>(report: Report<'_>, numbers: Numbers<'_>) -> bool {
+    for form in FORMS {
+        if !take_form::<K, T>(report, form, numbers) {
+            return false;
+        }
+    }
+    true
 }

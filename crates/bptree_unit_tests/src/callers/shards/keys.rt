@@ -17,7 +17,7 @@ fn finds_in_the_whole_what_a_shard_was_given<K: Key, V>()
     laws_of_del::<K, V>();
 }
 
-// If a key's shard has a greater key, or a smaller one, no other shard is asked.
+// If a key's shard has a greater key, or a smaller one, no other shard is read.
 fn finds_a_neighbour_in_its_shard<K: Key, V>()
     ensures next { OwnNextIsNext K.cmp V }
     ensures prev { LowerPreviousIsPrevious K.cmp V }
@@ -26,7 +26,7 @@ fn finds_a_neighbour_in_its_shard<K: Key, V>()
     laws_of_neighbours::<K, V>();
 }
 
-// If a key's shard has n pairs from the key on, or up to it, no other shard is asked for them. If
+// If a key's shard has n pairs from the key on, or up to it, no other shard is read. If
 // the same shard has the first and the last key of a range, it has the whole range.
 fn shows_a_page_of_its_shard<K: Key, V>()
     ensures forward { OwnPageIsPage K.cmp V }

@@ -36,7 +36,7 @@ fn has_each_key_of_one_shard<K: Key>(k: &K) -> (usize, usize)
     (route(&[], k), route_below(&[], k))
 }
 
-// Without ends each shard is asked. Between two bounds only the shard between them is asked.
+// Without bounds every shard is read. Between two bounds only the shards with keys between them are read.
 fn asks_between_bounds() -> ((usize, usize), (usize, usize), (usize, usize))
     ensures { result ≡ ((0, 2), (1, 1), (1, 2)) }
 {
