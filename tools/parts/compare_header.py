@@ -68,7 +68,7 @@ def main(crate):
     if declared != exports:
         return "the header and the sources name the functions in two orders"
     codes = dict(re.findall(r"^    BPTREE_(\w+) = (\d+)", header, re.M))
-    if codes != dict(re.findall(r"const (\w+): u32 = (\d+);", (crate / "src" / "results.rt").read_text())):
+    if codes != dict(re.findall(r"const (\w+): u32 = (\d+);", (crate.parent / "bptree_c_maps" / "src" / "results.rt").read_text())):
         return "the header and the crate number the results in two ways"
     return None
 

@@ -11,8 +11,8 @@
 #include <stddef.h>
 #include <stdint.h>
 
-#define SWEEP_BPTREE_VERSION "0.8.1"
-#define SWEEP_BPTREE_VERSION_NUMBER 8001
+#define SWEEP_BPTREE_VERSION "0.9.0"
+#define SWEEP_BPTREE_VERSION_NUMBER 9000
 
 #ifdef __cplusplus
 extern "C" {

@@ -1,26 +1,13 @@
 //! Calls of a map of numbers for many keys or indexes at once. The descents of 16 of them go side
 //! by side, so that the processor waits for the nodes of all of them at once.
-ghost use Rattle.std.specs.Prelude.{◌≡◌, ℕ, List, [], Some, true, false, length, if◌then◌else◌};
+ghost use Rattle.std.specs.Prelude.{◌≡◌, ℕ, List, [], Some, true, false, length};
 ghost use Rattle.std.specs.Ordering.{nat_cmp};
 ghost use Rattle.bptree_batches.specs.Each.{keys_at_each, mark_at_each, mark_each, ranked_each, read_each, values_at_each};
-ghost use Rattle.bptree_c.specs.Batch.{gone_marks, put_columns};
-ghost use Rattle.bptree_keys.specs.Contents.{del, has};
+ghost use Rattle.bptree_c_maps.specs.Batch.{gone_marks, put_columns};
 ghost use Rattle.bptree_map.specs.Many.{without_each};
 
-use crate::handle::{Handle, Map};
-use crate::writing::del_in;
-use bptree_arguments::count::Count;
-use bptree_batches::many::{copy_index_many, copy_many, mark_many, read_ahead};
-use bptree_invariant::nodes::Nodes;
-use bptree_stores::node_store_vec::NodeStoreVec;
-
-// The nodes of a map. One function returns them, since each that calls a function of the tree's
-// store is expensive to prove.
-fn nodes_of(map: &Map) -> &Nodes<NodeStoreVec<u64, u64, Count>>
-    ensures { result.now.contents ≡ map.now }
-{
-    map.pairs.tree().nodes()
-}
+use bptree_c_maps::batch::{at_all, del_all, get_all, mark_all, put_all, rank_all};
+use bptree_c_maps::handle::Handle;
 
 /// Writes the value at each given key to `values` at the key's index, and 1 to `found` there. For
 /// an absent key `values` is unchanged, and `found` gets 0. Each array has the length of `keys`.
@@ -42,7 +29,7 @@ pub extern "C" fn bptree_get_many(
     ensures values { values.new ≡ read_each nat_cmp pairs keys.now values.old }
     ensures found { found.new ≡ mark_each nat_cmp pairs 1 0 keys.now }
 {
-    copy_many(nodes_of(map.peek()), keys, values, found, 1, 0);
+    get_all(map.peek(), keys, values, found);
 }
 
 /// Writes 1 to `found` for each given key that is present, at the key's index, and 0 for each other
@@ -55,7 +42,7 @@ pub extern "C" fn bptree_contains_many(map: &mut Handle, keys: &[u64], found: &m
     ensures kept { map.new.held ≡ Some pairs }
     ensures found { found.new ≡ mark_each nat_cmp pairs 1 0 keys.now }
 {
-    mark_many(nodes_of(map.peek()), keys, found, 1, 0);
+    mark_all(map.peek(), keys, found);
 }
 
 /// Writes for each given key the number of smaller keys of the map to `ranks`, which has the length
@@ -68,7 +55,7 @@ pub extern "C" fn bptree_rank_many(map: &mut Handle, keys: &[u64], ranks: &mut [
     ensures kept { map.new.held ≡ Some pairs }
     ensures ranks { ranks.new ≡ ranked_each nat_cmp pairs keys.now }
 {
-    map.peek().pairs.rank_many(keys, ranks);
+    rank_all(map.peek(), keys, ranks);
 }
 
 /// Writes the key and the value at each index in the order of the keys to `keys` and `values`, and
@@ -94,8 +81,7 @@ pub extern "C" fn bptree_at_many(
     ensures values { values.new ≡ values_at_each pairs indexes.now values.old }
     ensures found { found.new ≡ mark_at_each pairs 1 0 indexes.now }
 {
-    let nodes = nodes_of(map.peek());
-    copy_index_many(nodes, indexes, keys, values, found, 1, 0);
+    at_all(map.peek(), indexes, keys, values, found);
 }
 
 /// Stores each value at its key, all of them or none. It returns false if an allocation failed;
@@ -117,15 +103,6 @@ pub extern "C" fn bptree_put_many(map: &mut Handle, keys: &[u64], values: &[u64]
     put_all(map.peek(), keys, values)
 }
 
-fn put_all(map: &mut Map, keys: &[u64], values: &[u64]) -> bool
-    requires values { length values.now ≡ length keys.now }
-    ensures put { result ≡ true → map.new ≡ put_columns map.old keys.now values.now }
-    ensures no_memory { result ≡ false → map.new ≡ map.old }
-    ensures infallible { keys.now ≡ [] → result ≡ true }
-{
-    map.pairs.extend_from_columns(keys, values).is_ok()
-}
-
 /// Removes the keys, and writes 1 to `found` for each that was present, at the key's index, and 0
 /// for each that was not. If a key comes twice, its second occurrence is not present. `found` has
 /// the length of `keys`.
@@ -140,30 +117,4 @@ pub extern "C" fn bptree_del_many(map: &mut Handle, keys: &[u64], found: &mut [u
     ensures found { found.new ≡ gone_marks pairs keys.now found.old }
 {
     del_all(map.peek(), keys, found);
-}
-
-fn del_all(map: &mut Map, keys: &[u64], found: &mut [u8])
-    requires found { length found.old ≡ length keys.now }
-    ensures left { map.new ≡ without_each nat_cmp map.old keys.now }
-    ensures found { found.new ≡ gone_marks map.old keys.now found.old }
-{
-    let mut at = 0;
-    let mut ahead = 0;
-    while at < keys.len() {
-        ahead = read_ahead(nodes_of(map), keys, at, ahead);
-        found[at] = del_mark(map, keys[at]);
-        at += 1;
-    }
-}
-
-// Removes a key. It returns 1 if the key was present, and 0 if not.
-fn del_mark(map: &mut Map, key: u64) -> u8
-    ensures left { map.new ≡ del nat_cmp map.old key }
-    ensures mark { result ≡ (if has nat_cmp map.old key then 1 else 0) }
-{
-    match del_in(map, key) {
-        Ok(Some(_)) => 1,
-        Ok(None) => 0,
-        Err(_) => unreachable!(),
-    }
 }

@@ -4,11 +4,11 @@ ghost use Rattle.std.specs.Ordering.{nat_cmp};
 ghost use Rattle.bptree_keys.specs.Contents.{value};
 
 use crate::batch::bptree_get_many;
-use crate::handle::Handle;
 use crate::many::bptree_range;
-use crate::pair::Pair;
 use crate::reading::{bptree_at, bptree_first, bptree_get, bptree_last, bptree_next, bptree_prev};
 use crate::writing::{bptree_del, bptree_del_at, bptree_pop_first, bptree_pop_last, bptree_put};
+use bptree_c_maps::handle::Handle;
+use bptree_c_maps::pair::Pair;
 
 // `bptree_get` writes the value at a key, and not the key.
 fn finds_the_value(map: &mut Handle) -> bool

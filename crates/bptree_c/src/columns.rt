@@ -1,12 +1,11 @@
 //! Pairs of a map of numbers as two arrays, of keys and of values.
-ghost use Rattle.std.specs.Prelude.{◌≡◌, ◌≤◌, ◌++◌, ℕ, List, Some, drop, length};
+ghost use Rattle.std.specs.Prelude.{◌≡◌, ◌++◌, ℕ, List, Some, drop, length};
 ghost use Rattle.std.specs.Map.{keys_of, values_of};
 ghost use Rattle.bptree_keys.specs.Ranges.{part};
 
-use crate::handle::Handle;
-use crate::many::part_of;
-use bptree_arguments::count::Count;
-use bptree_map::map::Iter;
+use bptree_c_maps::columns::copy_columns;
+use bptree_c_maps::handle::Handle;
+use bptree_c_maps::many::part_of;
 
 /// Copies the pairs from an index on, in the order of their keys, until the arrays are full or no
 /// pairs are left: each key to `keys`, and its value to `values`, which has the same length. It
@@ -30,26 +29,4 @@ pub extern "C" fn bptree_copy(
 {
     let pairs = part_of(map.peek(), index, keys.len());
     copy_columns(pairs, keys, values)
-}
-
-// Copies the pairs one after another.
-fn copy_columns(mut left: Iter<'_, u64, u64, Count>, keys: &mut [u64], values: &mut [u64]) -> usize
-    requires values { length values.old ≡ length keys.old }
-    requires room { length left ≤ length keys.old }
-    ensures count { result ≡ length left.entry }
-    ensures keys { keys.new ≡ keys_of left.entry ++ drop result keys.old }
-    ensures values { values.new ≡ values_of left.entry ++ drop result values.old }
-{
-    let mut count = 0;
-    while count < keys.len() {
-        match left.next() {
-            Some((key, value)) => {
-                keys[count] = *key;
-                values[count] = *value;
-                count += 1;
-            }
-            None => return count,
-        }
-    }
-    count
 }

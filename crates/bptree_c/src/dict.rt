@@ -1,22 +1,19 @@
 //! The calls of a map from byte strings to numbers. A look-up compares the caller's bytes in place:
 //! it allocates nothing and cannot fail.
-ghost use Rattle.std.specs.Prelude.{◌≡◌, ◌≢◌, ◌≤◌, ◌++◌, ℕ, List, [], Some, None, Ok, IfOk, OnErr, IsOk, IsTrue, false, length, slice_get, take, drop};
+ghost use Rattle.std.specs.Prelude.{◌≡◌, ◌≢◌, ◌≤◌, [], Some, None, IsTrue, false, length, slice_get};
 ghost use Rattle.std.specs.Map.{keys_of};
-ghost use Rattle.std.specs.Map.Iter.{deref_pair};
-ghost use Rattle.std.specs.Option.{option_map};
 ghost use Rattle.bptree_arguments.specs.CountLaws.{count_below};
-ghost use Rattle.bptree_c.specs.ByteKeys.{by_bytes};
-ghost use Rattle.bptree_c.specs.Dict.{Pairs, WritesPair, WritesOnlyIf, IsPutIn, IsRemovedKey};
+ghost use Rattle.bptree_c_maps.specs.ByteKeys.{by_bytes};
+ghost use Rattle.bptree_c_maps.specs.Dict.{Pairs, WritesPair, WritesOnlyIf, IsPutIn, IsRemovedKey};
 ghost use Rattle.bptree_keys.specs.Contents.{has, last_member, next, previous, value};
-ghost use Rattle.bptree_tree.specs.Changes.{Puts, Removes};
 
-use crate::bytes::{Bytes, View};
-use crate::dict_handle::{Dict, DictHandle};
-use crate::results::{removed_value, stored_value};
-use bptree_map::map::BPlusTreeMap;
-use bptree_probes::changing::{remove_by, replace_by};
-use bptree_probes::reading::{get_by, has_by, next_by, previous_by, rank_by};
-use std::alloc::{AllocError, Global};
+use bptree_c_maps::dict::{
+    at_in, clear_in, copy_of, del_in, empty_dict, first_in, has_in, last_in, len_in, next_in,
+    prev_in, put_in, rank_in, value_in, write_pair,
+};
+use bptree_c_maps::dict_handle::DictHandle;
+use bptree_c_maps::results::{removed_value, stored_value};
+use std::alloc::Global;
 
 /// Makes a map with no pairs. It returns false if an allocation fails; then the handle holds no
 /// map.
@@ -26,11 +23,7 @@ pub extern "C" fn bptree_dict_new(alloc: Global, dict: &mut DictHandle) -> bool
     ensures made { IsTrue result → dict.new.held ≡ Some [] }
     ensures no_memory { result ≡ false → dict.new.held ≡ None }
 {
-    let pairs = match BPlusTreeMap::new(alloc) {
-        Ok(pairs) => pairs,
-        Err(_) => return false,
-    };
-    match Box::new(alloc, Dict { pairs }) {
+    match empty_dict(alloc) {
         Ok(whole) => {
             dict.give(whole);
             true
@@ -63,16 +56,6 @@ pub extern "C" fn bptree_dict_clone(
     }
 }
 
-fn copy_of(alloc: Global, dict: &Dict) -> Result<Box<Dict>, AllocError>
-    ensures { IfOk result (λ copy. copy.value ≡ dict.now) }
-{
-    let pairs = dict.pairs.clone()?;
-    match Box::new(alloc, Dict { pairs }) {
-        Ok(whole) => Ok(whole),
-        Err(_) => Err(AllocError),
-    }
-}
-
 /// Frees a map. The handle then holds no map. O(n).
 #[unsafe(no_mangle)]
 pub extern "C" fn bptree_dict_free(alloc: Global, dict: &mut DictHandle)
@@ -92,7 +75,7 @@ pub extern "C" fn bptree_dict_clear(dict: &mut DictHandle) -> bool
     ensures cleared { IsTrue result → dict.new.held ≡ Some [] }
     ensures no_memory { result ≡ false → dict.new.held ≡ Some pairs }
 {
-    dict.peek().pairs.clear().is_ok()
+    clear_in(dict.peek())
 }
 
 /// The number of pairs. O(1).
@@ -103,7 +86,7 @@ pub extern "C" fn bptree_dict_len(dict: &mut DictHandle) -> usize
     ensures kept { dict.new.held ≡ Some pairs }
     ensures len { result ≡ length pairs }
 {
-    dict.peek().pairs.len()
+    len_in(dict.peek())
 }
 
 /// Whether a key is present. O(log n).
@@ -114,7 +97,7 @@ pub extern "C" fn bptree_dict_contains(dict: &mut DictHandle, key: &[u8]) -> boo
     ensures kept { dict.new.held ≡ Some pairs }
     ensures there { result ≡ has by_bytes pairs key.now }
 {
-    has_by(&dict.peek().pairs, &View::of(key))
+    has_in(dict.peek(), key)
 }
 
 /// Writes the value at a key to `found`. It returns false if the key is absent; then `found` is
@@ -137,12 +120,6 @@ pub extern "C" fn bptree_dict_get(dict: &mut DictHandle, key: &[u8], found: &mut
     }
 }
 
-fn value_in(dict: &Dict, key: &[u8]) -> Option<u64>
-    ensures { result ≡ value by_bytes dict.now key.now }
-{
-    get_by(&dict.pairs, &View::of(key)).copied()
-}
-
 /// Writes the number of smaller keys to `rank`, and returns whether the key itself is present.
 /// O(log n).
 #[unsafe(no_mangle)]
@@ -156,16 +133,6 @@ pub extern "C" fn bptree_dict_rank(dict: &mut DictHandle, key: &[u8], rank: &mut
     let (is_there, smaller) = rank_in(dict.peek(), key);
     *rank = smaller;
     is_there
-}
-
-fn rank_in(dict: &Dict, key: &[u8]) -> (bool, usize)
-    ensures there { result.0 ≡ has by_bytes dict.now key.now }
-    ensures rank { result.1 ≡ count_below by_bytes key.now (keys_of dict.now) }
-{
-    match rank_by(&dict.pairs, &View::of(key)) {
-        Ok(rank) => (true, rank),
-        Err(rank) => (false, rank),
-    }
 }
 
 /// Stores a value at a key. It returns 3 if the key is new, and 4 if it had a value, which is then
@@ -191,41 +158,6 @@ pub extern "C" fn bptree_dict_put(
     stored_value(put_in(alloc, dict.peek(), key, new), old)
 }
 
-// The key is copied first, so that one descent serves a present key and an absent one. If the copy
-// fails, the value of a present key is replaced in place.
-fn put_in(alloc: Global, dict: &mut Dict, key: &[u8], new: u64) -> Result<Option<u64>, AllocError>
-    ensures ok { IfOk result (Puts by_bytes key.now new dict.old dict.new) }
-    ensures present { IsTrue (has by_bytes dict.old key.now) → IsOk result }
-    ensures unchanged { OnErr result (dict.new ≡ dict.old) }
-{
-    match Bytes::copy_of(alloc, key) {
-        Ok(own) => insert_in(dict, own, new),
-        Err(_) => replace_in(dict, key, new),
-    }
-}
-
-fn insert_in(dict: &mut Dict, key: Bytes, new: u64) -> Result<Option<u64>, AllocError>
-    ensures ok { IfOk result (Puts by_bytes key new dict.old dict.new) }
-    ensures present { IsTrue (has by_bytes dict.old key) → IsOk result }
-    ensures unchanged { OnErr result (dict.new ≡ dict.old) }
-{
-    match dict.pairs.insert(key, new) {
-        Ok(old) => Ok(old),
-        Err(_) => Err(AllocError),
-    }
-}
-
-fn replace_in(dict: &mut Dict, key: &[u8], new: u64) -> Result<Option<u64>, AllocError>
-    ensures ok { IfOk result (Puts by_bytes key.now new dict.old dict.new) }
-    ensures present { IsTrue (has by_bytes dict.old key.now) → IsOk result }
-    ensures unchanged { OnErr result (dict.new ≡ dict.old) }
-{
-    match replace_by(&mut dict.pairs, &View::of(key), new) {
-        Ok(was) => Ok(Some(was)),
-        Err(_) => Err(AllocError),
-    }
-}
-
 /// Removes the pair at a key. It returns 1 if there was one, whose value is then in `old`, and 0 if
 /// not. It returns 2 if a copy of a key fails, which a node may need; then the map is unchanged.
 /// The call never fails for an absent key. At 0 and 2 `old` is unchanged. O(log n).
@@ -248,48 +180,6 @@ pub extern "C" fn bptree_dict_del(
     removed_value(del_in(alloc, dict.peek(), key), old)
 }
 
-// The key is copied first, so that one descent finds and removes it. If the copy fails, the key is
-// removed by its rank, with two descents.
-fn del_in(alloc: Global, dict: &mut Dict, key: &[u8]) -> Result<Option<u64>, AllocError>
-    ensures ok { IfOk result (Removes by_bytes key.now dict.old dict.new) }
-    ensures absent { has by_bytes dict.old key.now ≡ false → result ≡ Ok None }
-    ensures unchanged { OnErr result (dict.new ≡ dict.old) }
-{
-    match Bytes::copy_of(alloc, key) {
-        Ok(own) => dict.pairs.remove(&own),
-        Err(_) => remove_by(&mut dict.pairs, &View::of(key)),
-    }
-}
-
-// Returns whether there is a pair. If there is one, its key is copied and its value written.
-fn write_pair(
-    pair: Option<(&Bytes, &u64)>,
-    out: &mut [u8],
-    len: &mut usize,
-    value: &mut u64,
-) -> bool
-    ensures { WritesPair (option_map deref_pair pair.entry) result (out.old, len.old, value.old) (out.new, len.new, value.new) }
-{
-    match pair {
-        Some((key, it)) => {
-            *len = copy(key.as_slice(), out);
-            *value = *it;
-            true
-        }
-        None => false,
-    }
-}
-
-// Copies as many bytes as `out` has room for, and returns the number of bytes of the key.
-pub(crate) fn copy(key: &[u8], out: &mut [u8]) -> usize
-    ensures copied { out.new ≡ take (length out.old) key.now ++ drop (length key.now) out.old }
-    ensures whole { result ≡ length key.now }
-{
-    let count = key.len().min(out.len());
-    out[..count].copy_from_slice(&key[..count]);
-    key.len()
-}
-
 /// Writes the pair with the least key: `out` begins with as many of the key's bytes as it has room
 /// for, the key's whole length is in `len`, and the value in `value`. It returns false if the map
 /// is empty; then nothing is written.
@@ -306,7 +196,7 @@ pub extern "C" fn bptree_dict_first(
     ensures written { WritesPair (slice_get pairs 0) result (out.old, len.old, value.old) (out.new, len.new, value.new) }
     ensures unchanged { WritesOnlyIf result out.old len.old value.old out.new len.new value.new }
 {
-    write_pair(dict.peek().pairs.first(), out, len, value)
+    write_pair(first_in(dict.peek()), out, len, value)
 }
 
 /// Writes the pair with the greatest key as `bptree_dict_first` does.
@@ -323,7 +213,7 @@ pub extern "C" fn bptree_dict_last(
     ensures written { WritesPair (last_member pairs) result (out.old, len.old, value.old) (out.new, len.new, value.new) }
     ensures unchanged { WritesOnlyIf result out.old len.old value.old out.new len.new value.new }
 {
-    write_pair(dict.peek().pairs.last(), out, len, value)
+    write_pair(last_in(dict.peek()), out, len, value)
 }
 
 /// Writes the pair at an index in the order of the keys, from 0 on, as `bptree_dict_first` does. It
@@ -342,7 +232,7 @@ pub extern "C" fn bptree_dict_at(
     ensures written { WritesPair (slice_get pairs index) result (out.old, len.old, value.old) (out.new, len.new, value.new) }
     ensures unchanged { WritesOnlyIf result out.old len.old value.old out.new len.new value.new }
 {
-    write_pair(dict.peek().pairs.get_index(index), out, len, value)
+    write_pair(at_in(dict.peek(), index), out, len, value)
 }
 
 /// Writes the pair with the least greater key as `bptree_dict_first` does. It returns false if
@@ -361,8 +251,7 @@ pub extern "C" fn bptree_dict_next(
     ensures written { WritesPair (next by_bytes pairs key.now) result (out.old, len.old, value.old) (out.new, len.new, value.new) }
     ensures unchanged { WritesOnlyIf result out.old len.old value.old out.new len.new value.new }
 {
-    let found = next_by(&dict.peek().pairs, &View::of(key));
-    write_pair(found, out, len, value)
+    write_pair(next_in(dict.peek(), key), out, len, value)
 }
 
 /// Writes the pair with the greatest smaller key as `bptree_dict_next` does.
@@ -380,6 +269,5 @@ pub extern "C" fn bptree_dict_prev(
     ensures written { WritesPair (previous by_bytes pairs key.now) result (out.old, len.old, value.old) (out.new, len.new, value.new) }
     ensures unchanged { WritesOnlyIf result out.old len.old value.old out.new len.new value.new }
 {
-    let found = previous_by(&dict.peek().pairs, &View::of(key));
-    write_pair(found, out, len, value)
+    write_pair(prev_in(dict.peek(), key), out, len, value)
 }

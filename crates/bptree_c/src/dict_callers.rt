@@ -1,8 +1,8 @@
 //! Callers of the exports of a map from byte strings, which use only the contracts of these. If
 //! there is no pair, or the call fails, nothing is written: the values of before are unchanged.
 ghost use Rattle.std.specs.Prelude.{◌≡◌, [], ◌∷◌, Some, None, IsTrue, true, unwrap_or};
-ghost use Rattle.bptree_c.specs.ByteKeys.{by_bytes};
-ghost use Rattle.bptree_c.specs.Dict.{Pairs};
+ghost use Rattle.bptree_c_maps.specs.ByteKeys.{by_bytes};
+ghost use Rattle.bptree_c_maps.specs.Dict.{Pairs};
 ghost use Rattle.bptree_keys.specs.Contents.{value};
 
 use crate::dict::{
@@ -10,10 +10,10 @@ use crate::dict::{
     bptree_dict_last, bptree_dict_next, bptree_dict_prev, bptree_dict_put,
 };
 use crate::dict_ends::{bptree_dict_pop_first, bptree_dict_pop_last};
-use crate::dict_handle::DictHandle;
 use crate::dict_load::bptree_dict_del_at;
 use crate::dict_many::{bptree_dict_page, bptree_dict_page_back, bptree_dict_values};
-use crate::record::Record;
+use bptree_c_maps::dict_handle::DictHandle;
+use bptree_c_maps::record::Record;
 use std::alloc::Global;
 
 // A caller that ignores the result has the value, or what it had before.

@@ -1,12 +1,11 @@
 //! Calls that make, copy, load, empty and free a map.
-ghost use Rattle.std.specs.Prelude.{◌≡◌, ℕ, List, [], Some, None, IsTrue, false, IfOk, OnErr, map as each};
-ghost use Rattle.bptree_c.specs.Pairs.{as_tuple, pairs_gathered};
+ghost use Rattle.std.specs.Prelude.{◌≡◌, ℕ, List, [], Some, None, IsTrue, false};
+ghost use Rattle.bptree_c_maps.specs.Pairs.{pairs_gathered};
 
-use crate::handle::{Handle, Map};
-use crate::pair::Pair;
-use bptree_arguments::count::Count;
-use bptree_map::map::BPlusTreeMap;
-use std::alloc::{AllocError, Global};
+use bptree_c_maps::handle::Handle;
+use bptree_c_maps::making::{clear_in, copy_of, empty_map, load_into};
+use bptree_c_maps::pair::Pair;
+use std::alloc::Global;
 
 /// Makes a map with no pairs. It returns false if an allocation fails; then the handle holds no
 /// map.
@@ -16,11 +15,7 @@ pub extern "C" fn bptree_new(alloc: Global, map: &mut Handle) -> bool
     ensures made { IsTrue result → map.new.held ≡ Some [] }
     ensures no_memory { result ≡ false → map.new.held ≡ None }
 {
-    let pairs = match BPlusTreeMap::new(alloc) {
-        Ok(pairs) => pairs,
-        Err(_) => return false,
-    };
-    match Box::new(alloc, Map { pairs }) {
+    match empty_map(alloc) {
         Ok(whole) => {
             map.give(whole);
             true
@@ -49,16 +44,6 @@ pub extern "C" fn bptree_clone(alloc: Global, map: &mut Handle, to: &mut Handle)
     }
 }
 
-fn copy_of(alloc: Global, map: &Map) -> Result<Box<Map>, AllocError>
-    ensures { IfOk result (λ copy. copy.value ≡ map.now) }
-{
-    let pairs = map.pairs.clone()?;
-    match Box::new(alloc, Map { pairs }) {
-        Ok(whole) => Ok(whole),
-        Err(_) => Err(AllocError),
-    }
-}
-
 /// Frees a map. The handle then holds no map. O(n).
 #[unsafe(no_mangle)]
 pub extern "C" fn bptree_free(alloc: Global, map: &mut Handle)
@@ -78,7 +63,7 @@ pub extern "C" fn bptree_clear(map: &mut Handle) -> bool
     ensures cleared { IsTrue result → map.new.held ≡ Some [] }
     ensures no_memory { result ≡ false → map.new.held ≡ Some pairs }
 {
-    map.peek().pairs.clear().is_ok()
+    clear_in(map.peek())
 }
 
 /// Replaces the contents of the map by the given pairs, in any order: of equal keys the last one
@@ -92,34 +77,4 @@ pub extern "C" fn bptree_load(alloc: Global, map: &mut Handle, given: &[Pair]) -
     ensures no_memory { result ≡ false → map.new.held ≡ Some pairs }
 {
     load_into(alloc, map.peek(), given).is_ok()
-}
-
-fn load_into(alloc: Global, map: &mut Map, given: &[Pair]) -> Result<(), AllocError>
-    ensures ok { IfOk result (λ _. map.new ≡ pairs_gathered given.now) }
-    ensures unchanged { OnErr result (map.new ≡ map.old) }
-{
-    map.pairs = pairs_gathered(alloc, given)?;
-    Ok(())
-}
-
-fn pairs_gathered(
-    alloc: Global,
-    given: &[Pair],
-) -> Result<BPlusTreeMap<u64, u64, Count>, AllocError>
-    ensures { IfOk result (λ pairs. pairs ≡ pairs_gathered given.now) }
-{
-    let copied = tuples(alloc, given)?;
-    BPlusTreeMap::from_iter(alloc, copied)
-}
-
-fn tuples(alloc: Global, given: &[Pair]) -> Result<Vec<(u64, u64)>, AllocError>
-    ensures { IfOk result (λ copied. copied.items ≡ each as_tuple given.now) }
-{
-    let mut copied = Vec::with_capacity(alloc, given.len())?;
-    let mut rest = given;
-    while let Some((pair, tail)) = rest.split_first() {
-        copied.push((pair.key, pair.value))?;
-        rest = tail;
-    }
-    Ok(copied)
 }

@@ -1,19 +1,15 @@
 //! Calls that copy many pairs at once into a caller's array. These calls cannot fail.
-ghost use Rattle.std.specs.Prelude.{◌≡◌, ◌≤◌, ℕ, List, Some, None, length, reverse, take};
+ghost use Rattle.std.specs.Prelude.{◌≡◌, ℕ, List, Some, None, length};
 ghost use Rattle.std.specs.Ordering.{nat_cmp};
-ghost use Rattle.bptree_c.specs.Ends.{pairs_up_to_key, pairs_back_from, turned_pairs};
-ghost use Rattle.bptree_c.specs.Pairs.{IsCopied, IsPairTaken};
-ghost use Rattle.bptree_keys.specs.Ends.{is_back};
-ghost use Rattle.bptree_keys.specs.Ranges.{between, part};
+ghost use Rattle.bptree_c_maps.specs.Ends.{pairs_back_from};
+ghost use Rattle.bptree_c_maps.specs.Pairs.{IsCopied};
+ghost use Rattle.bptree_keys.specs.Ranges.{between};
 ghost use Rattle.bptree_tree.specs.Pages.{page};
 
-use crate::handle::{Handle, Map};
-use crate::number::Number;
-use crate::pair::Pair;
-use bptree_arguments::count::Count;
+use bptree_c_maps::handle::Handle;
+use bptree_c_maps::many::{copy, page_in, pairs_from, pairs_up_to};
+use bptree_c_maps::pair::Pair;
 use bptree_keys::end::End;
-use bptree_map::map::Iter;
-use bptree_probes::reading::{end_by, start_by};
 
 /// Copies the pairs whose keys are at least `from`, in the order of their keys, until the array is
 /// full or no pairs are left. It returns the number of pairs.
@@ -55,76 +51,4 @@ pub extern "C" fn bptree_page(map: &mut Handle, number: usize, out: &mut [Pair])
     }
     let pairs = page_in(map.peek(), number, out.len());
     copy(pairs, End::Front, out)
-}
-
-fn page_in(map: &Map, number: usize, size: usize) -> Iter<'_, u64, u64, Count>
-    requires { 1 ≤ size }
-    ensures { result ≡ page map.now number size }
-{
-    match map.pairs.page(number, size) {
-        Ok(pairs) => pairs,
-        Err(_) => unreachable!(),
-    }
-}
-
-// At most `n` pairs from the least key that is at least `key`.
-fn pairs_from(map: &Map, key: u64, n: usize) -> Iter<'_, u64, u64, Count>
-    ensures { result ≡ take n (between nat_cmp map.now (Some key) None) }
-{
-    part_of(map, start_by(&map.pairs, &Number { key }), n)
-}
-
-pub(crate) fn part_of(map: &Map, index: usize, n: usize) -> Iter<'_, u64, u64, Count>
-    ensures { result ≡ part map.now index n }
-{
-    match map.pairs.range_by_argument(index, n) {
-        Ok(pairs) => pairs,
-        Err(_) => unreachable!(),
-    }
-}
-
-// At most `n` pairs up to the greatest key that is at most `key`.
-fn pairs_up_to(map: &Map, key: u64, n: usize) -> Iter<'_, u64, u64, Count>
-    ensures { reverse result ≡ take n (pairs_back_from map.now key) }
-{
-    let end = end_by(&map.pairs, &Number { key });
-    if n < end {
-        part_of(map, end - n, n)
-    } else {
-        part_of(map, 0, end)
-    }
-}
-
-// Copies the pairs one after another from an end.
-fn copy(mut left: Iter<'_, u64, u64, Count>, end: End, out: &mut [Pair]) -> usize
-    ensures { IsCopied (turned_pairs (is_back end) left.entry) out.old out.new result }
-{
-    let mut count = 0;
-    while count < out.len() {
-        match take_pair(&mut left, end) {
-            Some(pair) => {
-                out[count] = pair;
-                count += 1;
-            }
-            None => return count,
-        }
-    }
-    count
-}
-
-// Takes the pair at an end.
-fn take_pair(left: &mut Iter<'_, u64, u64, Count>, end: End) -> Option<Pair>
-    ensures { IsPairTaken (turned_pairs (is_back end) left.old) result (turned_pairs (is_back end) left.new) }
-{
-    let taken = match end {
-        End::Front => left.next(),
-        End::Back => left.next_back(),
-    };
-    match taken {
-        Some((key, value)) => Some(Pair {
-            key: *key,
-            value: *value,
-        }),
-        None => None,
-    }
 }

@@ -55,8 +55,8 @@ fn take_strings(plain: Report<'_>, kit: Report<'_>, numbers: Numbers<'_>) -> boo
         rt: plain.rt,
         kind: "head",
     };
-    strings::take::<String, BPlusTree<NodeStoreVec<String, u64>>>(plain, numbers)
-        && strings::take::<Headed<String>, BPlusTree<Headeds>>(head, numbers)
+    strings::take_tree::<NodeStoreVec<String, u64>>(plain, numbers)
+        && strings::take_tree::<Headeds>(head, numbers)
         && strings::take::<String, BTreeMap<String, u64>>(kit, numbers)
 }
 

@@ -1,1 +1,2 @@
 mod DigitLemmas
+mod Rests

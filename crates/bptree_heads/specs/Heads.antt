@@ -26,7 +26,12 @@ AreBytes (suc n) (byte ∷ bytes) = (byte < 256) × AreBytes n bytes
 unfoldable pub IsHeadOf : List ℕ → ℕ → Type 0
 IsHeadOf bytes head = AreBytes 8 bytes × (head ≡ head_in 8 bytes)
 
-head_bound : (n : ℕ) (bytes : List ℕ) → AreBytes n bytes → head_in n bytes < 256 ^ n
+-- a number is the head of both keys
+abbrev pub HaveSameHead : {K : Type 0} → (K → ℕ → Type 0) → K → K → Type 0
+HaveSameHead is_head x y = (head : ℕ) × is_head x head × is_head y head
+
+-- a head of `n` bytes is below 256 to the power of `n`
+pub head_bound : (n : ℕ) (bytes : List ℕ) → AreBytes n bytes → head_in n bytes < 256 ^ n
 unfolding head_in AreBytes
 head_bound zero bytes are = omega (arith)
 head_bound (suc n) [] are = one-le-pow (suc n) 256 (omega (arith))

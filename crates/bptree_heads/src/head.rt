@@ -3,7 +3,7 @@ ghost use Rattle.std.specs.Prelude.{◌≡◌, ◌<◌, ℕ, get_or, string_byte
 ghost use Rattle.std.specs.declared.cmp.Ordering.TheVariants.{Less};
 ghost use Rattle.std.specs.Ordering.{nat_cmp};
 ghost use Rattle.std.specs.Cmp.Lexicographic.{slice_cmp};
-ghost use Rattle.bptree_heads.specs.Heads.{IsHeadOf, heads_decide, head_of_first};
+ghost use Rattle.bptree_heads.specs.Heads.{HaveSameHead, IsHeadOf, heads_decide, head_of_first};
 
 use bptree_keys::key::Key;
 use std::cmp::Ordering;
@@ -19,6 +19,17 @@ pub trait HasHead: Key {
     fn head(&self) -> u64
         ensures { is_head self.now result };
 
+    /// Compares two keys with the same head. The default compares them as `cmp` does. A key whose
+    /// head determines its first bytes can compare the bytes behind them alone.
+    ///
+    /// The cost is at most that of `cmp`. It allocates nothing and cannot fail.
+    fn cmp_same_head(&self, other: &Self) -> Ordering
+        requires { HaveSameHead is_head self.now other.now }
+        ensures { result ≡ Self.cmp self.now other.now }
+    {
+        self.cmp(other)
+    }
+
     ghost decides: { (x y : Self) (h k : ℕ) → is_head x h → is_head y k → h < k → Self.cmp x y ≡ Less };
 }
 
@@ -27,6 +38,11 @@ impl HasHead for String {
 
     fn head(&self) -> u64 {
         head_of(self.as_bytes())
+    }
+
+    #[inline(always)]
+    fn cmp_same_head(&self, other: &String) -> Ordering {
+        compare_rests(self.as_bytes(), other.as_bytes())
     }
 
     ghost decides = { λ x y h k. heads_decide (string_bytes x) (string_bytes y) h k };
@@ -38,6 +54,14 @@ impl<A: HasHead, B: Key> HasHead for (A, B) {
 
     fn head(&self) -> u64 {
         self.0.head()
+    }
+
+    #[inline(always)]
+    fn cmp_same_head(&self, other: &(A, B)) -> Ordering {
+        match self.0.cmp_same_head(&other.0) {
+            Ordering::Equal => self.1.cmp(&other.1),
+            ordering => ordering,
+        }
     }
 
     ghost decides = { λ x y h k first second less. head_of_first (B.cmp x.1 y.1) (A.decides x.0 y.0 h k first second less) };
@@ -76,8 +100,21 @@ pub fn compare(head: u64, bytes: &[u8], other_head: u64, other: &[u8]) -> Orderi
     } else if head > other_head {
         Ordering::Greater
     } else {
-        bytes.cmp(other)
+        compare_rests(bytes, other)
     }
+}
+
+// Compares two strings of bytes with the same head. If both have eight bytes or more, these are
+// equal, and only the bytes behind them are compared.
+#[inline(always)]
+fn compare_rests(bytes: &[u8], other: &[u8]) -> Ordering
+    requires { HaveSameHead IsHeadOf bytes.now other.now }
+    ensures { result ≡ slice_cmp nat_cmp bytes.now other.now }
+{
+    if bytes.len() < 8 || other.len() < 8 {
+        return bytes.cmp(other);
+    }
+    bytes[8..].cmp(&other[8..])
 }
 
 // The byte at an index, or 0 behind the last one.

@@ -74,8 +74,8 @@ impl<K: Key, V: Drop, A: Argument<K>> NodeStoreVec<K, V, A> {
 
 impl<K: Key, V: Drop, A: Argument<K>> NodeStore for NodeStoreVec<K, V, A> {
     ghost use Rattle.std.proofs.Common.{arith};
-    ghost use Rattle.std.specs.Prelude.{◌≡◌, ℕ, IfOk, IfErr, OnErr};
-    ghost use Rattle.bptree_nodes.specs.Slot.{Free, Held, Present, UpdatesInner, UpdatesLeaf, AddsInner};
+    ghost use Rattle.std.specs.Prelude.{◌≡◌, ℕ};
+    ghost use Rattle.bptree_nodes.specs.Slot.{Free, Held, Present, UpdatesInner, UpdatesLeaf};
     ghost use Rattle.bptree_stores.specs.StoreSlabs.{slots, store_with_leaf, store_with_leaf_updates, store_with_inner, store_with_inner_updates};
 
     type K = K;
@@ -110,18 +110,6 @@ impl<K: Key, V: Drop, A: Argument<K>> NodeStore for NodeStoreVec<K, V, A> {
 
     fn is_empty(&self) -> bool {
         is_vacant(&self.inner_nodes) && is_vacant(&self.leaf_nodes)
-    }
-
-    fn add_inner(&mut self, node: Box<InnerNode<K, A>>) -> Result<InnerNodeId, Box<InnerNode<K, A>>>
-        ensures was_free { IfOk result (λ id. (slots self.old).inner id.0 ≡ Free) }
-        ensures updates { IfOk result (AddsInner (slots self.old) (slots self.new) node.value) }
-        ensures unchanged { OnErr result (slots self.new ≡ slots self.old) }
-        ensures returned { IfErr result (λ back. back ≡ node) }
-    {
-        if self.inner_nodes.reserve(1).is_err() {
-            return Err(node);
-        }
-        Ok(InnerNodeId::from_usize(self.inner_nodes.insert_reserved(IdState::Occupied(node))))
     }
 
     fn reserve_inner(&mut self) -> Result<InnerNodeId, AllocError> {

@@ -64,19 +64,6 @@ pub trait NodeStore: Drop {
     fn is_empty(&self) -> bool
         ensures { IsTrue result ↔ IsEmpty (slots self.now) };
 
-    /// Adds an inner node and returns its id, which was free. If an allocation fails, the box is
-    /// returned.
-    ///
-    /// O(1) in `NodeStoreVec`, amortized over its growth. It fails only if an allocation fails.
-    fn add_inner(
-        &mut self,
-        node: Box<InnerNode<Self::K, Self::Argument>>,
-    ) -> Result<InnerNodeId, Box<InnerNode<Self::K, Self::Argument>>>
-        ensures was_free { IfOk result (λ id. (slots self.old).inner id.0 ≡ Free) }
-        ensures updates { IfOk result (AddsInner (slots self.old) (slots self.new) node.value) }
-        ensures unchanged { OnErr result (slots self.new ≡ slots self.old) }
-        ensures returned { IfErr result (λ back. back ≡ node) };
-
     /// Reserves a free id for an inner node, so that `put_back_inner` cannot fail.
     ///
     /// O(1) in `NodeStoreVec`, amortized over its growth. It fails only if an allocation fails.
@@ -227,6 +214,28 @@ pub fn leaf_n<S: NodeStore>() -> u16
     ensures { result ≡ 64 }
 {
     LeafNode::<S::K, S::V>::max_capacity()
+}
+
+/// Adds an inner node and returns its id, which was free. If an allocation fails, nothing is changed
+/// and the box is returned.
+///
+/// O(1) with `NodeStoreVec`, amortized over its growth. It fails only if an allocation fails.
+pub fn add_inner<S: NodeStore>(
+    store: &mut S,
+    node: Box<InnerNode<S::K, S::Argument>>,
+) -> Result<InnerNodeId, Box<InnerNode<S::K, S::Argument>>>
+    ensures was_free { IfOk result (λ id. (S.slots store.old).inner id.0 ≡ Free) }
+    ensures updates { IfOk result (AddsInner (S.slots store.old) (S.slots store.new) node.value) }
+    ensures unchanged { OnErr result (S.slots store.new ≡ S.slots store.old) }
+    ensures returned { IfErr result (λ back. back ≡ node) }
+{
+    match store.reserve_inner() {
+        Ok(id) => {
+            store.put_back_inner(id, node);
+            Ok(id)
+        }
+        Err(_) => Err(node),
+    }
 }
 
 /// Adds a leaf with no pairs and no links, and returns its id, which was free. The call allocates

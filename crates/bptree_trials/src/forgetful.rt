@@ -15,8 +15,8 @@ pub struct Forgetful<S: NodeStore> {
 
 impl<S: NodeStore> NodeStore for Forgetful<S> {
     ghost use Rattle.std.proofs.Common.{arith};
-    ghost use Rattle.std.specs.Prelude.{◌≡◌, IfOk, IfErr, OnErr};
-    ghost use Rattle.bptree_nodes.specs.Slot.{Free, Held, AddsInner, AddsLeaf};
+    ghost use Rattle.std.specs.Prelude.{◌≡◌};
+    ghost use Rattle.bptree_nodes.specs.Slot.{Held, AddsInner, AddsLeaf};
 
     type K = S::K;
 
@@ -46,18 +46,6 @@ impl<S: NodeStore> NodeStore for Forgetful<S> {
 
     fn is_empty(&self) -> bool {
         self.inner.is_empty()
-    }
-
-    fn add_inner(
-        &mut self,
-        node: Box<InnerNode<S::K, S::Argument>>,
-    ) -> Result<InnerNodeId, Box<InnerNode<S::K, S::Argument>>>
-        ensures was_free { IfOk result (λ id. (S.slots self.old.inner).inner id.0 ≡ Free) }
-        ensures updates { IfOk result (AddsInner (S.slots self.old.inner) (S.slots self.new.inner) node.value) }
-        ensures unchanged { OnErr result (S.slots self.new.inner ≡ S.slots self.old.inner) }
-        ensures returned { IfErr result (λ back. back ≡ node) }
-    {
-        self.inner.add_inner(node)
     }
 
     fn reserve_inner(&mut self) -> Result<InnerNodeId, AllocError> {

@@ -13,7 +13,7 @@ use bptree_keys::node_id::{LeafNodeId, NodeId};
 use bptree_nodes::inner_node::InnerNode;
 use bptree_nodes::leaf_node::LeafNode;
 use bptree_stores::node_store_vec::NodeStoreVec;
-use bptree_stores::node_stores::{CloneStore, NodeStore, new_empty_leaf};
+use bptree_stores::node_stores::{CloneStore, NodeStore, add_inner, new_empty_leaf};
 use std::alloc::{AllocError, Global};
 
 /// The two constructors of a store.
@@ -82,11 +82,11 @@ fn add_leaf<S: NodeStore>(store: &mut S, words: &mut Words) -> bool {
 
 // Adds an empty inner node. If this fails, it reports the length of the node that the error
 // returned.
-fn add_inner<S: NodeStore>(alloc: Global, store: &mut S, words: &mut Words) -> bool {
+fn add_empty_inner<S: NodeStore>(alloc: Global, store: &mut S, words: &mut Words) -> bool {
     let Ok(node) = InnerNode::empty(alloc) else {
         return false;
     };
-    match store.add_inner(node) {
+    match add_inner(store, node) {
         Ok(id) => store.try_get_inner(id).is_some().report(words),
         Err(node) => {
             node.len().report(words);
@@ -106,7 +106,7 @@ fn change<S: NodeStore + Made>(
         0 => reserve_leaf(store, words),
         1 => reserve_inner(store, words),
         2 => add_leaf(store, words),
-        3 => add_inner(alloc, store, words),
+        3 => add_empty_inner(alloc, store, words),
         4 => replace(store, S::with_room(alloc, record.a as usize)),
         5 => reserve_both(store, words),
         6 => replace(store, Ok(S::made(alloc))),

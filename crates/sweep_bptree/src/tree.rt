@@ -15,7 +15,7 @@ pub use bptree_load_plan::loading::in_load_order;
 pub use bptree_nodes::inner_node::InnerNode;
 pub use bptree_nodes::leaf_node::LeafNode;
 pub use bptree_stores::node_store_vec::NodeStoreVec;
-pub use bptree_stores::node_stores::{NodeStore, inner_n, leaf_n, new_empty_leaf};
+pub use bptree_stores::node_stores::{NodeStore, add_inner, inner_n, leaf_n, new_empty_leaf};
 pub use bptree_tree::iterator::Iter;
 pub use bptree_tree::tree::IntoIter;
 pub use bptree_tree::{BPlusTree, Cursor, Statistic};

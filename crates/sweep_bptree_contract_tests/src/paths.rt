@@ -52,7 +52,8 @@ pub mod of_tree {
     pub use sweep_bptree::tree::{
         Argument, BPlusTree, Compares, Cursor, InnerNode, InnerNodeId, IntoIter, Iter, Key,
         LeafNode, LeafNodeId, NodeId, NodeStore, NodeStoreVec, RankArgument, SearchArgument,
-        SearchHint, Statistic, bulk_load, in_load_order, inner_n, leaf_n, new_empty_leaf, visit,
+        SearchHint, Statistic, add_inner, bulk_load, in_load_order, inner_n, leaf_n,
+        new_empty_leaf, visit,
     };
 }
 

@@ -4,7 +4,7 @@ use crate::benchmark::numbers::Numbers;
 use crate::benchmark::ordered::{Get, Mapped};
 use crate::benchmark::timing::{Report, read_each};
 use std::alloc::{AllocError, Global};
-use sweep_bptree::{Headed, Key};
+use sweep_bptree::{BPlusTree, Headed, Key, NodeStore};
 
 const DIGITS: [char; 16] = [
     '0', '1', '2', '3', '4', '5', '6', '7', '8', '9', 'a', 'b', 'c', 'd', 'e', 'f',
@@ -134,4 +134,13 @@ pub fn take<K: Text, T: Mapped<K>>(report: Report<'_>, numbers: Numbers<'_>) -> 
         }
     }
     true
+}
+
+/// Does what `take` does, for a tree over a store. A caller names the store once here, and not for
+/// each trait that `take` asks of a map.
+pub fn take_tree<S: NodeStore<V = u64>>(report: Report<'_>, numbers: Numbers<'_>) -> bool
+where
+    S::K: Text,
+{
+    take::<S::K, BPlusTree<S>>(report, numbers)
 }

@@ -14,7 +14,9 @@ use bptree_keys::node_id::{InnerNodeId, LeafNodeId};
 use bptree_nodes::inner_node::InnerNode;
 use bptree_nodes::leaf_node::LeafNode;
 use bptree_stores::node_store_vec::NodeStoreVec;
-use bptree_stores::node_stores::{CloneStore, NodeStore, inner_n, leaf_n, new_empty_leaf};
+use bptree_stores::node_stores::{
+    CloneStore, NodeStore, add_inner, inner_n, leaf_n, new_empty_leaf,
+};
 use std::alloc::{AllocError, Global};
 
 // A new store has no node under any id, and reports that it is empty.
@@ -65,7 +67,7 @@ fn adds_beside_a_held_number<S: NodeStore>(
     ensures added { MatchResult result (λ id. (id.0 ≢ held.0) × ((S.slots store.new).inner id.0 ≡ Present node.value)) (λ back. back ≡ node) }
     ensures others { ((S.slots store.new).inner held.0 ≡ Held) × ((S.slots store.new).leaf ≡ (S.slots store.old).leaf) }
 {
-    store.add_inner(node)
+    add_inner(store, node)
 }
 
 /// Reserves two ids for inner nodes, which differ. Returns `None` if an allocation fails.

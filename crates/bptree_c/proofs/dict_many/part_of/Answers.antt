@@ -1,5 +1,0 @@
-use Rattle.bptree_c.proofs.PageLemmas.{part_is}
-use Rattle.bptree_c.proofs.dict_many.part_of.Goals as goal
-
-pub returns : goal.returns
-returns c = rw (← c.dict.view_is) (part_is c.dict.inside.pairs c.args.index c.args.n c.in-Ok.pairs c.in-Ok.ensures.rest)

@@ -1,0 +1,12 @@
+-- `from_raw` erases the type behind the pointer.
+use Rattle.std.proofs.Common.{refl}
+use Rattle.bptree_c_maps.specs.contracts.dict_handle.DictHandle.{the_type, the_row}
+use Rattle.bptree_c_maps.specs.contracts.dict_handle.DictHandle.from_raw.Key.{name as #self}
+use Rattle.bptree_c_maps.specs.contracts.dict_handle.Dict.{the_row as Tree}
+use Rattle.bptree_c_maps.proofs.Handles.{from_raw_met}
+use Rattle.bptree_c_maps.proofs.dict_handle.DictHandle.from_raw.Statement.{statement}
+use Rattle.bptree_c_maps.proofs.dict_handle.DictHandle.from_raw.Code as code
+
+pub from_raw_spec : {M : Type 1} → statement M
+from_raw_spec 𝓤 𝓛 𝓜 𝓡 wired =
+    from_raw_met 𝓛 𝓜 𝓡 the_type.name Tree the_row (λ p o. record { at = p; held = o }) (λ d. d.held) (λ p o vs. refl) (λ p o. refl) #self (code.unfolded 𝓤 𝓛.H 𝓜 𝓡 wired)
