@@ -22,7 +22,8 @@ pub trait HasHead: Key {
     /// Compares two keys with the same head. The default compares them as `cmp` does. A key whose
     /// head determines its first bytes can compare the bytes behind them alone.
     ///
-    /// The cost is at most that of `cmp`. It allocates nothing and cannot fail.
+    /// O(1) beside the comparison, which reads no more than `cmp` does. It allocates nothing and
+    /// cannot fail.
     fn cmp_same_head(&self, other: &Self) -> Ordering
         requires { HaveSameHead is_head self.now other.now }
         ensures { result ≡ Self.cmp self.now other.now }
