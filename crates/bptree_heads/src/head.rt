@@ -19,18 +19,6 @@ pub trait HasHead: Key {
     fn head(&self) -> u64
         ensures { is_head self.now result };
 
-    /// Compares two keys with the same head. The default compares them as `cmp` does. A key whose
-    /// head determines its first bytes can compare the bytes behind them alone.
-    ///
-    /// O(1) beside the comparison, which reads no more than `cmp` does. It allocates nothing and
-    /// cannot fail.
-    fn cmp_same_head(&self, other: &Self) -> Ordering
-        requires { HaveSameHead is_head self.now other.now }
-        ensures { result ≡ Self.cmp self.now other.now }
-    {
-        self.cmp(other)
-    }
-
     ghost decides: { (x y : Self) (h k : ℕ) → is_head x h → is_head y k → h < k → Self.cmp x y ≡ Less };
 }
 
@@ -39,11 +27,6 @@ impl HasHead for String {
 
     fn head(&self) -> u64 {
         head_of(self.as_bytes())
-    }
-
-    #[inline(always)]
-    fn cmp_same_head(&self, other: &String) -> Ordering {
-        compare_rests(self.as_bytes(), other.as_bytes())
     }
 
     ghost decides = { λ x y h k. heads_decide (string_bytes x) (string_bytes y) h k };
@@ -55,14 +38,6 @@ impl<A: HasHead, B: Key> HasHead for (A, B) {
 
     fn head(&self) -> u64 {
         self.0.head()
-    }
-
-    #[inline(always)]
-    fn cmp_same_head(&self, other: &(A, B)) -> Ordering {
-        match self.0.cmp_same_head(&other.0) {
-            Ordering::Equal => self.1.cmp(&other.1),
-            ordering => ordering,
-        }
     }
 
     ghost decides = { λ x y h k first second less. head_of_first (B.cmp x.1 y.1) (A.decides x.0 y.0 h k first second less) };

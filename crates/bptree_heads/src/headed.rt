@@ -115,7 +115,7 @@ impl<K: HasHead> Ord for Headed<K> {
         } else if self.head > other.head {
             Ordering::Greater
         } else {
-            self.key.cmp_same_head(&other.key)
+            self.key.cmp(&other.key)
         }
     }
 }

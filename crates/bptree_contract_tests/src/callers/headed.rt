@@ -1,5 +1,5 @@
 //! Callers of keys with heads, and of maps that have them.
-ghost use Rattle.std.specs.Prelude.{◌≡◌, IfOk, IfSome, IsTrue, OnOk, OnErr};
+ghost use Rattle.std.specs.Prelude.{◌≡◌, IfOk, IsTrue, OnOk, OnErr};
 ghost use Rattle.std.specs.declared.cmp.Ordering.TheVariants.{Less, Equal};
 ghost use Rattle.std.specs.Option.{option_copied};
 ghost use Rattle.bptree_keys.specs.Contents.{put, value};
@@ -39,17 +39,6 @@ fn has_smaller_head<K: HasHead>(first: &Headed<K>, second: &Headed<K>) -> bool
     ensures { IsTrue result → K.cmp first.now second.now ≡ Less }
 {
     first.head() < second.head()
-}
-
-// Keys with the same head are in the order of the keys.
-fn orders_if_the_heads_agree<K: HasHead>(first: &K, second: &K) -> Option<Ordering>
-    ensures { IfSome result (λ order. order ≡ K.cmp first.now second.now) }
-{
-    if first.head() == second.head() {
-        Some(first.cmp_same_head(second))
-    } else {
-        None
-    }
 }
 
 // A look-up finds the value at the key itself.
