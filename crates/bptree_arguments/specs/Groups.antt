@@ -51,7 +51,7 @@ module _ {G : Type 0} (cmp : G → G → Ordering) where
   IsGreatestGroup groups None = groups ≡ []
   IsGreatestGroup groups (Some greatest) = AllByRecursion (λ x. is_gt (cmp x greatest.0) ≡ false) groups × (greatest.1 ≡ group_size greatest.0 groups) × (0 < greatest.1)
 
-  -- What a summary determines of the groups that it stands for: the greatest group, whether there
+  -- What a summary determines of the groups that it is made of: the greatest group, whether there
   -- is no group, the number of different groups, and the extremes.
   abbrev pub ReportsGreatest : GroupCount G → Option (G × ℕ) → Type 0
   ReportsGreatest summary greatest = (groups : List G) → IsGroupSummary summary groups → IsGreatestGroup groups greatest

@@ -32,14 +32,14 @@ abbrev pub IsSlotOf : {K : Type 0} → (K → K → Ordering) → K → List K �
 IsSlotOf {K} cmp k keys (Ok i) = (front back : List K) × (x : K) × (length front ≡ i) × SplitsAt cmp k keys front (x ∷ []) back
 IsSlotOf {K} cmp k keys (Err i) = (front back : List K) × (length front ≡ i) × SplitsAt cmp k keys front [] back
 
--- If the rank stands for some keys, the next rank stands for these and for the keys of pieces
+-- If the rank represents some keys, the next rank represents these and the keys of pieces
 -- behind them. The pieces have these summaries, and all keys are smaller than k.
 abbrev pub Carries : {R A K : Type 0} → (A → List K → Type 0) → (K → K → Ordering) → List A → (R → K → List K → Type 0) → R → K → R → Type 0
 Carries {K = K} is_summary cmp arguments represents rank k next =
     (before : List K) (pieces : List (List K)) → AllNonEmpty pieces → AllZip is_summary arguments pieces → IsStrictlySortedBy cmp (before ++ flatten pieces)
     → AllBelow cmp k (before ++ flatten pieces) → length (before ++ flatten pieces) < 2 ^ 64 → represents rank k before → represents next k (before ++ flatten pieces)
 
--- If the slot is that of k among the keys, the result ranks k among all keys. The rank stands for
+-- If the slot is that of k among the keys, the result ranks k among all keys. The rank represents
 -- the smaller keys before these, and any keys behind are greater.
 abbrev pub RanksAtSlot : {R K : Type 0} → (K → K → Ordering) → (R → K → List K → Type 0) → (K → List K → R → Type 0) → K → R → List K → Result ℕ ℕ → Result R R → Type 0
 RanksAtSlot {K = K} cmp represents ranks k rank keys slot outcome =

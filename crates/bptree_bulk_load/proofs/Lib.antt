@@ -1,4 +1,5 @@
 pub mod Gathered
+pub mod Counts
 pub mod Lists
 pub mod Raised
 pub mod Seated

@@ -3,7 +3,7 @@ use Rattle.std.proofs.Common.{◌≡◌, ℕ, zero, suc, ◌+◌, ◌-◌, ◌<�
 use Rattle.std.specs.declared.cmp.Ordering.{Ordering}
 use Rattle.std.specs.List.{insert, remove}
 use Rattle.std.proofs.lemmas.List.{take_at, drop_at}
-use Rattle.std.proofs.lemmas.List.Edits.{length-remove}
+use Rattle.std.proofs.lemmas.List.Edits.{length-insert, length-remove}
 use Rattle.bptree_keys.specs.declared.node_id.LeafNodeId.{LeafNodeId}
 use Rattle.bptree_keys.specs.declared.node_id.NodeId.{NodeId}
 use Rattle.bptree_nodes.specs.Inner.{Inner, with_entry, without_entry, first_children, later_children}
@@ -16,7 +16,7 @@ use Rattle.bptree_rebalancing.specs.declared.rotate_merge.ParentEntry.{ParentEnt
 use Rattle.bptree_rebalancing.specs.declared.rotate_merge.Sibling.{Sibling}
 use Rattle.bptree_rebalancing.specs.declared.rotate_merge.Sibling.TheVariants.{Left, Right}
 use Rattle.bptree_rebalancing.proofs.Choosing.{inserted_is}
-use Rattle.bptree_invariant.proofs.ListReads.{read_below, read_some}
+use Rattle.bptree_invariant.proofs.ListReads.{read_some}
 use Rattle.bptree_propagation.proofs.Undone.{same_node}
 use Rattle.bptree_propagation.proofs.NodeChanges.{entry_back, sum_back, index_below, set_back, set_long}
 
@@ -143,15 +143,30 @@ module _ {K A : Type 0} where
       after (y ∷ xs) ys x zero e = absurd (omega arith)
       after (y ∷ xs) ys x (suc n) e = after xs ys x n (omega arith)
 
+  -- a node without an entry has a child at the entry's index
+  removed_index : (node bare : Inner K A) (slot : ℕ) → HasChildAt node (slot + 1) → bare ≡ without_entry node slot → HasChildAt bare slot × (length bare.keys + 1 ≡ length node.keys)
+  removed_index node bare slot h is =
+      let first = length-remove node.keys slot (omega (arith, h.within)) in
+      let second = length-remove node.children (slot + 1) (omega (arith, h.within, h.children)) in
+      let third = length-remove node.arguments (slot + 1) (omega (arith, h.within, h.children, h.arguments)) in
+      rw is (record { within = omega (arith, first, h.within); children = omega (arith, first, second, h.children, h.within); arguments = omega (arith, second, third, h.arguments) }, first)
+
+  pub entry_below : (node bare : Inner K A) (slot : ℕ) → HasChildAt node (slot + 1) → bare ≡ without_entry node slot → slot < length bare.arguments
+  entry_below node bare slot h is = index_below bare slot (removed_index node bare slot h is).0
+
+  -- the entry fits in the node again, also after other summaries were stored there
+  pub entry_fits : (node bare now : Inner K A) (slot : ℕ) → HasChildAt node (slot + 1) → length node.keys ≤ 64 → bare ≡ without_entry node slot → now.keys ≡ bare.keys → (length now.keys < 64) × (slot ≤ length now.keys)
+  entry_fits node bare now slot h most is same =
+      let removed = removed_index node bare slot h is in
+      let long = ap length same in
+      (omega (arith, long, removed.1, most), omega (arith, long, removed.0.within))
+
   -- a node without the entry that was removed from it
   pub entry_out : (node bare : Inner K A) (slot : ℕ) (s : K) (child : NodeId) (a : A) → HasChildAt node (slot + 1) → slice_get node.keys slot ≡ Some s → slice_get node.children (slot + 1) ≡ Some child → slice_get node.arguments (slot + 1) ≡ Some a
       → bare ≡ without_entry node slot → HasEntry node bare slot s child a
   entry_out node bare slot s child a h key at reported is =
-      let first = length-remove node.keys slot (read_below node.keys slot s key) in
-      let second = length-remove node.children (slot + 1) (read_below node.children (slot + 1) child at) in
-      let third = length-remove node.arguments (slot + 1) (read_below node.arguments (slot + 1) a reported) in
       rw is (record {
-        index = record { within = omega (arith, first, h.within); children = omega (arith, first, second, h.children, h.within); arguments = omega (arith, second, third, h.arguments) };
+        index = (removed_index node (without_entry node slot) slot h refl).0;
         is = node_same node (with_entry (without_entry node slot) slot s child a) (sym (insert_removed node.keys slot s key)) (sym (insert_removed node.children (slot + 1) child at)) (sym (insert_removed node.arguments (slot + 1) a reported));
       })
 
@@ -243,3 +258,43 @@ module _ {K A : Type 0} where
       let there : child ≡ given =
       inserted_is bare.children (slot + 1) child given (omega (arith, entry.index.within, entry.index.children)) (ap (λ (n : Inner K A). slice_get n.children (slot + 1)) (sym entry.is) ∙ read) in
       is ∙ rw (undone.0, ← there) (sym entry.is)
+
+-- a rotation keeps the sum of both sizes
+moves_total : (giver : Sibling) (a b c d : ℕ) → Moves giver a b c d → c + d ≡ a + b
+moves_total Left a b c d moves = omega arith
+moves_total Right a b c d moves = omega arith
+
+-- two nodes with one child more than keys have
+some_left : (a b c d i j k l : ℕ) → c + d ≡ a + b → a ≡ i - 1 → b ≡ j - 1 → c ≡ k - 1 → d ≡ l - 1 → 0 < i → 0 < j → k + l ≡ i + j → (0 < k) × (0 < l)
+some_left a b c d i j k l sizes one other one' other' left right all = (omega arith, omega arith)
+
+-- after a rotation a child can be rotated back: the node has the entry again, and each child keeps
+-- a child of its own
+module _ {K A : Type 0} where
+  split_index : (bare new : Inner K A) (slot : ℕ) (a : A) (s : K) (child : NodeId) (b : A) → HasChildAt bare slot → new ≡ with_split bare slot a s child b → HasChildAt new (slot + 1) × (length new.keys ≡ length bare.keys + 1)
+  split_index bare new slot a s child b h is =
+      let long = set_long bare.arguments slot a in
+      let keys = length-insert bare.keys slot s h.within in
+      let children = length-insert bare.children (slot + 1) child (omega (arith, h.within, h.children)) in
+      let arguments = length-insert (slice_set bare.arguments slot a) (slot + 1) b (omega (arith, long, h.within, h.children, h.arguments)) in
+      rw is (record { within = omega (arith, keys, h.within); children = omega (arith, keys, children, h.children); arguments = omega (arith, children, arguments, long, h.arguments) }, keys)
+
+  pub rotated_index : {cmp : K → K → Ordering} {left_told : A → Type 0} {parts : K → Type 0} {right_told : A → Type 0} (node bare new : Inner K A) (slot : ℕ) (s : K) (child : NodeId) (a before : A)
+      → HasEntry node bare slot s child a → Rotates cmp bare slot child left_told parts right_told new before → length node.keys ≤ 64 → HasChildAt new (slot + 1) × (length new.keys ≤ 64)
+  rotated_index node bare new slot s child a before entry rotates most =
+      let put = split_index bare new slot rotates.left rotates.separator child rotates.right entry.index rotates.is in
+      let was : length node.keys ≡ length bare.keys + 1 = ap (λ (n : Inner K A). length n.keys) entry.is ∙ length-insert bare.keys slot s entry.index.within in
+      (put.0, omega (arith, put.1, was, most))
+
+  -- after a merge the entry fits in the node again
+  pub merged_index : {reported : A → Type 0} (node bare new : Inner K A) (slot : ℕ) (s : K) (child : NodeId) (a before : A) → HasEntry node bare slot s child a → Merges bare slot reported new before → length node.keys ≤ 64 → HasChildAt new slot × (length new.keys < 64)
+  merged_index node bare new slot s child a before entry merges most =
+      let h = entry.index in
+      let was : length node.keys ≡ length bare.keys + 1 = ap (λ (n : Inner K A). length n.keys) entry.is ∙ length-insert bare.keys slot s h.within in
+      rw merges.is (record { within = h.within; children = h.children; arguments = set_long bare.arguments slot merges.both ∙ h.arguments }, omega (arith, was, most))
+
+  pub children_left : (giver : Sibling) (a b c d : Inner K A) (s u : K) → 0 < length a.children → 0 < length b.children → MovesChild giver a s b c u d → (0 < length c.children) × (0 < length d.children)
+  children_left giver a b c d s u left right moves =
+      let sizes = moves_total giver (length a.keys) (length b.keys) (length c.keys) (length d.keys) moves.sizes in
+      let all : length c.children + length d.children ≡ length a.children + length b.children = omega (arith, ap length moves.children, length-append c.children d.children, length-append a.children b.children) in
+      some_left (length a.keys) (length b.keys) (length c.keys) (length d.keys) (length a.children) (length b.children) (length c.children) (length d.children) sizes moves.left_fits.1.children moves.right_fits.1.children moves.left_fits.0.children moves.right_fits.0.children left right all

@@ -1,5 +1,5 @@
 -- A parent and two of its children are taken out of a store, changed, and put back.
-use Rattle.std.proofs.Common.{◌≡◌, ℕ, ◌+◌, ◌≤◌, List, length, slice_get, Some, inl, inr, refl, sym, ap, subst, ◌∙◌, Result, Ok, Err, IfOk}
+use Rattle.std.proofs.Common.{◌≡◌, ℕ, ◌+◌, ◌<◌, ◌≤◌, List, [], ◌∷◌, ◌++◌, length, length-append, append_assoc, arith, slice_get, Some, inl, inr, refl, sym, ap, subst, ◌∙◌, Result, Ok, Err, IfOk}
 use Rattle.std.specs.declared.cmp.Ordering.{Ordering}
 use Rattle.std.proofs.lemmas.Bool.{cases_eq}
 use Rattle.bptree_nodes.specs.Inner.{Inner}
@@ -12,13 +12,15 @@ use Rattle.bptree_invariant.specs.Shape.{leaf_pairs, leaf_next, inner_keys, inne
 use Rattle.bptree_propagation.specs.Change.{StartsAt}
 use Rattle.bptree_propagation.specs.LeafChange.{SumsUpLeaf}
 use Rattle.bptree_propagation.proofs.Undone.{same_node}
-use Rattle.bptree_rebalancing.specs.ChooseSibling.{CanGiveChild, FitInOneLeaf, FitInOneNode}
+use Rattle.bptree_rebalancing.specs.ChooseSibling.{CanGivePair, CanGiveChild, FitInOneLeaf, FitInOneNode}
 use Rattle.bptree_rebalancing.specs.RotateMerge.{MergesLeaves, RotatesInners, MergesInners, UndoesRotateInners, UndoesMergeLeaves, UndoesMergeInners, ThreeAt, MovesPairAt, ResummarizesLeavesAt, RotatesLeavesAt, MergesLeavesAt, RotatesInnersAt, MergesInnersAt}
-use Rattle.bptree_rebalancing.specs.Transfer.{other_of, MovesPair, ExchangesJoint}
+use Rattle.bptree_rebalancing.specs.Transfer.{other_of, CanGive, MovesPair, ExchangesJoint}
 use Rattle.bptree_rebalancing.specs.declared.rotate_merge.ParentEntry.{ParentEntry}
 use Rattle.bptree_rebalancing.specs.declared.rotate_merge.Sibling.{Sibling}
+use Rattle.bptree_rebalancing.specs.declared.rotate_merge.Sibling.TheVariants as sibling
 use Rattle.bptree_rebalancing.specs.declared.rotate_merge.ChildSummaries.{ChildSummaries}
-use Rattle.bptree_rebalancing.proofs.Transfers.{joint_back, pair_moved_back}
+use Rattle.bptree_propagation.specs.Sums.{HasChildAt}
+use Rattle.bptree_rebalancing.proofs.Transfers.{joint_back, pair_moved_back, can_give_back, rotated_index, merged_index, children_left}
 
 pub slots_same : {I L : Type 0} (x y : Slots I L) → ((n : ℕ) → x.inner n ≡ y.inner n) → ((n : ℕ) → x.leaf n ≡ y.leaf n) → x ≡ y
 slots_same x y inner leaf = λ i. record { inner = λ n. inner n i; leaf = λ n. leaf n i }
@@ -329,3 +331,72 @@ module _ {K V A : Type 0} {now s1 : Slots (Inner K A) (Leaf K V)} {behind : Inne
 
       pub other_held_then : {x y : Slot (Inner K A)} {s4 s5 : Slots (Inner K A) (Leaf K V)} → UpdatesInner s3 s4 id.0 x → UpdatesInner s4 s5 left.0 y → s5.inner right.0 ≡ Held
       other_held_then p1 p2 = p2.inner.others right.0 (λ e. t.apart (sym e)) ∙ (p1.inner.others right.0 far.1 ∙ t3.inner.changed)
+
+-- a node and two children that rotated can rotate back, once they are taken out
+module _ {K V A : Type 0} {cmp : K → K → Ordering} {is_summary : A → List K → Type 0} {slot : ℕ} {giver : Sibling} {was now s1 s2 : Slots (Inner K A) (Leaf K V)} {id left right : InnerNodeId} {sides : ChildSummaries A} {node one other x y z : Inner K A}
+    (r : RotatesInnersAt cmp is_summary slot was now id giver left right sides) where
+  pub rotates_back : now.inner id.0 ≡ Present node → UpdatesInner now s1 id.0 Held → s1.inner left.0 ≡ Present one → UpdatesInner s1 s2 left.0 Held → s2.inner right.0 ≡ Present other → x ≡ node → y ≡ one → z ≡ other
+      → HasChildAt x (slot + 1) × (length x.keys ≤ 64) × CanGive (other_of giver) (length y.keys) (length z.keys) × (0 < length y.children) × (0 < length z.children)
+  rotates_back here t1 v2 t2 v3 x_is y_is z_is =
+      let t = r.three in
+      let rotated = r.transfers in
+      let is = x_is ∙ same_node (now.inner id.0) node t.node' here t.is_node in
+      let one_is = y_is ∙ same_node (now.inner left.0) one t.one' (sym (t1.inner.others left.0 r.far.0) ∙ v2) t.is_left in
+      let other_is = z_is ∙ same_node (now.inner right.0) other r.other' (sym (t2.inner.others right.0 (λ e. t.apart (sym e)) ∙ t1.inner.others right.0 r.far.1) ∙ v3) t.is_right in
+      let index = rotated_index t.node rotated.bare t.node' slot rotated.separator rotated.child sides.right sides.left rotated.entry rotated.rotates t.most in
+      let some = children_left giver t.one t.other t.one' r.other' rotated.separator rotated.up rotated.some.0 rotated.some.1 rotated.moves in
+      rw (is, one_is, other_is) (index.0, index.1, can_give_back giver (length t.one.keys) (length t.other.keys) (length t.one'.keys) (length r.other'.keys) r.can rotated.moves.sizes, some.0, some.1)
+
+-- a node and two children that merged can be divided again, once they are taken out
+module _ {K V A : Type 0} {cmp : K → K → Ordering} {is_summary : A → List K → Type 0} {slot kept : ℕ} {was now s1 : Slots (Inner K A) (Leaf K V)} {id left right : InnerNodeId} {sides : ChildSummaries A} {emptied node one x y z : Inner K A} (m : MergesInnersAt cmp is_summary slot was now id left right sides emptied) where
+  pub divides_back : kept ≡ length (inner_keys (was.inner left.0)) → now.inner id.0 ≡ Present node → UpdatesInner now s1 id.0 Held → s1.inner left.0 ≡ Present one → x ≡ node → y ≡ one → z ≡ emptied
+      → HasChildAt x slot × (length x.keys < 64) × (kept < length y.keys) × (kept ≤ 64) × (z.children ≡ [])
+  divides_back long here t1 v2 x_is y_is z_is =
+      let t = m.three in
+      let merged = m.transfers in
+      let is = x_is ∙ same_node (now.inner id.0) node t.node' here t.is_node in
+      let one_is = y_is ∙ same_node (now.inner left.0) one t.one' (sym (t1.inner.others left.0 m.far.0) ∙ v2) t.is_left in
+      let index = merged_index t.node merged.bare t.node' slot merged.separator merged.child sides.right sides.left merged.entry merged.merges t.most in
+      let was_long : kept ≡ length t.one.keys = rw t.at_left at long in
+      let all = length-append t.one.keys (merged.separator ∷ t.other.keys) in
+      rw (is, one_is, z_is, merged.nodes.left_is, merged.nodes.right_is) (index.0, index.1, omega (arith, was_long, all), omega (arith, was_long, m.fits), refl)
+
+-- a pair is taken out of one leaf, and stored in its sibling
+module _ {K V A : Type 0} {giver : Sibling} {old mid new : Slots (Inner K A) (Leaf K V)} (left right : LeafNodeId) {one one' other other' : Leaf K V} (pair : K × V) (apart : left.0 ≡ right.0 → ⊥) (can : CanGivePair old giver left right) where
+  pub pair_moved_right : giver ≡ sibling.Left → old.leaf left.0 ≡ Present one → UpdatesLeaf old mid left.0 (Present one') → mid.leaf right.0 ≡ Present other → UpdatesLeaf mid new right.0 (Present other')
+      → one.pairs ≡ one'.pairs ++ pair ∷ [] → one' ≡ record one { pairs = one'.pairs } → other' ≡ record other { pairs = pair ∷ other.pairs } → MovesPairAt old new giver left right
+  pair_moved_right is at_left p1 v2 p2 taken links put =
+      let at_right = sym (p1.leaf.others right.0 (λ e. apart (sym e))) ∙ v2 in
+      rw is (record {
+        one = one;
+        other = other;
+        one' = one';
+        other' = other';
+        at_left = at_left;
+        at_right = at_right;
+        is_left = p2.leaf.others left.0 apart ∙ p1.leaf.changed;
+        is_right = p2.leaf.changed;
+        leaves = λ n l r. p2.leaf.others n r ∙ p1.leaf.others n l;
+        inner = p2.inner ∙ p1.inner;
+        can = rw (is, at_left, at_right) at can;
+        moves = record { left_links = links; right_links = rw put refl; pairs = rw (put, taken, append_assoc) refl; sizes = rw (put, taken) (omega (arith, length-append one'.pairs (pair ∷ [])), omega arith) };
+      })
+
+  pub pair_moved_left : giver ≡ sibling.Right → old.leaf right.0 ≡ Present other → UpdatesLeaf old mid right.0 (Present other') → mid.leaf left.0 ≡ Present one → UpdatesLeaf mid new left.0 (Present one')
+      → other.pairs ≡ pair ∷ other'.pairs → other' ≡ record other { pairs = other'.pairs } → one' ≡ record one { pairs = one.pairs ++ pair ∷ [] } → MovesPairAt old new giver left right
+  pair_moved_left is at_right p1 v2 p2 taken links put =
+      let at_left = sym (p1.leaf.others left.0 apart) ∙ v2 in
+      rw is (record {
+        one = one;
+        other = other;
+        one' = one';
+        other' = other';
+        at_left = at_left;
+        at_right = at_right;
+        is_left = p2.leaf.changed;
+        is_right = p2.leaf.others right.0 (λ e. apart (sym e)) ∙ p1.leaf.changed;
+        leaves = λ n l r. p2.leaf.others n l ∙ p1.leaf.others n r;
+        inner = p2.inner ∙ p1.inner;
+        can = rw (is, at_left, at_right) at can;
+        moves = record { left_links = rw put refl; right_links = links; pairs = rw (put, taken, append_assoc) refl; sizes = rw (put, taken) (omega (arith, length-append one.pairs (pair ∷ [])), omega arith) };
+      })

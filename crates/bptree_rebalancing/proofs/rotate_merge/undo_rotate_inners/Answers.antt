@@ -1,6 +1,15 @@
-use Rattle.std.proofs.Common.{◌∙◌}
-use Rattle.bptree_rebalancing.proofs.Transfers.{rotated_entry, rotated_separator, child_moved_back}
+use Rattle.std.proofs.Common.{refl, ◌∙◌}
+use Rattle.bptree_rebalancing.proofs.Transfers.{entry_below, entry_fits, rotated_entry, rotated_separator, child_moved_back}
 use Rattle.bptree_rebalancing.proofs.rotate_merge.undo_rotate_inners.Goals as goal
+
+pub set_argument-requires : goal.set_argument-requires
+set_argument-requires g c = entry_below c.args.node.now c.remove_at-up.new.self c.args.slot c.requires.index c.remove_at-up.ensures.after
+
+pub insert_at-requires-clause-room : goal.insert_at-requires-clause-room
+insert_at-requires-clause-room g c = (entry_fits c.args.node.now c.remove_at-up.new.self c.set_argument.new.self c.args.slot c.requires.index c.requires.most c.remove_at-up.ensures.after (rw c.set_argument.ensures.after refl)).0
+
+pub insert_at-requires-clause-within : goal.insert_at-requires-clause-within
+insert_at-requires-clause-within g c = (entry_fits c.args.node.now c.remove_at-up.new.self c.set_argument.new.self c.args.slot c.requires.index c.requires.most c.remove_at-up.ensures.after (rw c.set_argument.ensures.after refl)).1
 
 pub returns : goal.returns
 returns g c = record {

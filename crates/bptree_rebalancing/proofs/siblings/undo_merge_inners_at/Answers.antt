@@ -1,5 +1,11 @@
-use Rattle.bptree_rebalancing.proofs.Triples.{inners_unmerged_at}
+use Rattle.bptree_rebalancing.proofs.Triples.{inners_unmerged_at, divides_back}
 use Rattle.bptree_rebalancing.proofs.siblings.undo_merge_inners_at.Goals as goal
+
+pub undo_merge_inners-requires : goal.undo_merge_inners-requires
+undo_merge_inners-requires g c =
+    let able = divides_back c.requires.1 c.requires.2 c.take_inner-node.ensures.value c.take_inner-node.ensures.updates c.take_inner-one.ensures.value
+    c.deref_mut.ensures.value c.deref_mut-2.ensures.value c.deref_mut-3.ensures.value in
+    record { index = able.0; room = able.1; kept = able.2; most = able.3; shell = able.4 }
 
 pub returns : goal.returns
 returns g c was merged kept read =
