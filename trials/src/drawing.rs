@@ -293,7 +293,7 @@ impl Drawing {
                 } else {
                     self.near(lo)
                 };
-                call(8, 4, &[lo, hi, 0, bits])
+                call(8, 4, &[lo, hi, self.dice.below(2), bits])
             }
             31..=33 if is_map => call(8, 5, &[self.dice.number()]),
             _ if is_map => call(8, 6, &[lo, hi, self.dice.number(), bits]),

@@ -141,26 +141,20 @@ impl Stop<'_> {
         Err(format!("{back:?} was not to come"))
     }
 
-    // Those before the pair in hand are asked; those behind it come back.
+    // Nothing has changed, or all pairs that stay come back and the map is empty.
     fn retained(&self) -> Result<Model, String> {
         let (model, record) = (self.model, self.record);
         let mut after = model.clone();
         if self.reply.word(0) == 0 {
             return self.has(&[0], after);
         }
-        let in_hand = self.pair_at(1);
-        let place = model.here.find(in_hand.0);
-        let place = place.map_err(|_| format!("{in_hand:?} was not there"))?;
-        if model.here.at(place) != Some(in_hand) || !model.stays(record, in_hand) {
-            return Err(format!("{in_hand:?} is in hand"));
-        }
         let mut words = vec![1];
-        for pair in model.here.part(place, model.here.len()) {
-            words.extend(model.pair(pair));
+        for pair in model.here.all() {
+            if model.stays(record, pair) {
+                words.extend(model.pair(pair));
+            }
         }
-        let kept = model.here.part(0, place);
-        let kept = kept.into_iter().filter(|pair| model.stays(record, *pair));
-        after.here = Pairs::gathered(model.kind, kept);
+        after.here = Pairs::new(model.kind);
         self.has(&words, after)
     }
 }

@@ -29,9 +29,11 @@ pub struct Filling<S: NodeStore> {
     pub pairs: Vec<(S::K, S::V)>,
 }
 
-// The number of pairs, of `left`, that the next leaf takes. A leaf gets at least 32 pairs, or all
-// that are left.
-pub(crate) fn size_of(left: usize) -> usize
+/// Returns the number of pairs, of `left`, that the next leaf takes. A leaf gets at least 32 pairs,
+/// or all that are left.
+///
+/// O(1). It allocates nothing and cannot fail.
+pub fn size_of(left: usize) -> usize
     ensures { IsSize left result }
 {
     if left <= LEAF_CAPACITY {
@@ -70,7 +72,9 @@ pub(crate) fn filling_of<S: NodeStore>(
 }
 
 /// Fills empty leaves with pairs, and appends them to others.
-pub(crate) fn fill_all<K: Key, V: Drop>(
+///
+/// O(1) a pair. It allocates nothing and cannot fail.
+pub fn fill_all<K: Key, V: Drop>(
     pairs: IntoIter<(K, V)>,
     rooms: IntoIter<Box<LeafNode<K, V>>>,
     leaves: &mut Vec<Box<LeafNode<K, V>>>,

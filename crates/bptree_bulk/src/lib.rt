@@ -7,7 +7,7 @@ mod cut;
 pub mod filling;
 mod gap;
 pub mod joining;
-mod moving;
+pub mod moving;
 pub mod removing;
 mod side;
 pub mod splitting;

@@ -43,7 +43,9 @@ fn pour_leaf<K: Key, V: Drop>(leaf: Box<LeafNode<K, V>>, pairs: &mut Vec<(K, V)>
 }
 
 /// Moves the pairs of the next `count` leaves behind others.
-pub(crate) fn pour<K: Key, V: Drop>(
+///
+/// O(1) a pair. It allocates nothing and cannot fail.
+pub fn pour<K: Key, V: Drop>(
     leaves: &mut IntoIter<Box<LeafNode<K, V>>>,
     count: usize,
     pairs: &mut Vec<(K, V)>,

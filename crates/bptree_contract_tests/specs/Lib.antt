@@ -1,4 +1,5 @@
 pub mod Groups
 pub mod Numbers
 pub mod Summaries
+pub mod Thinned
 pub mod Words

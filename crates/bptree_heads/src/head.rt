@@ -1,5 +1,5 @@
 //! The trait of keys that have a head, and the heads of strings and pairs.
-ghost use Rattle.std.specs.Prelude.{◌≡◌, ◌<◌, ℕ, get_or, string_bytes};
+ghost use Rattle.std.specs.Prelude.{◌≡◌, ◌<◌, ◌≤◌, ℕ, get_or, length, string_bytes, take};
 ghost use Rattle.std.specs.declared.cmp.Ordering.TheVariants.{Less};
 ghost use Rattle.std.specs.Ordering.{nat_cmp};
 ghost use Rattle.std.specs.Cmp.Lexicographic.{slice_cmp};
@@ -81,16 +81,56 @@ pub fn compare(head: u64, bytes: &[u8], other_head: u64, other: &[u8]) -> Orderi
 }
 
 // Compares two strings of bytes with the same head. If both have eight bytes or more, these are
-// equal, and only the bytes behind them are compared.
+// equal, and the bytes behind them are compared by words of eight. The last word ends with the last
+// byte of the shorter string, so it may overlap the word before it.
 #[inline(always)]
 fn compare_rests(bytes: &[u8], other: &[u8]) -> Ordering
     requires { HaveSameHead IsHeadOf bytes.now other.now }
     ensures { result ≡ slice_cmp nat_cmp bytes.now other.now }
 {
-    if bytes.len() < 8 || other.len() < 8 {
+    let both = bytes.len().min(other.len());
+    if both < 8 {
         return bytes.cmp(other);
     }
-    bytes[8..].cmp(&other[8..])
+    let last = both - 8;
+    let mut at = 8;
+    'words: while at < both {
+        let from = at.min(last);
+        let word = word_of(&bytes[from..]);
+        let other_word = word_of(&other[from..]);
+        if word != other_word {
+            return word.cmp(&other_word);
+        }
+        at = from + 8;
+    }
+    bytes.len().cmp(&other.len())
+}
+
+// The head of a string of eight bytes or more.
+#[inline(always)]
+fn word_of(bytes: &[u8]) -> u64
+    requires { 8 ≤ length bytes.now }
+    ensures { IsHeadOf bytes.now result }
+{
+    let later = byte(bytes, 4) * 0x100_0000
+        + byte(bytes, 5) * 0x1_0000
+        + byte(bytes, 6) * 0x100
+        + byte(bytes, 7);
+    byte(bytes, 0) * 0x100_0000_0000_0000
+        + byte(bytes, 1) * 0x1_0000_0000_0000
+        + byte(bytes, 2) * 0x100_0000_0000
+        + byte(bytes, 3) * 0x1_0000_0000
+        + later
+}
+
+// The byte at an index.
+#[inline(always)]
+fn byte(bytes: &[u8], index: usize) -> u64
+    requires { index < length bytes.now }
+    ensures digit { result ≡ get_or bytes.now index 0 }
+    ensures below { result < 256 }
+{
+    u64::from(bytes[index])
 }
 
 // The byte at an index, or 0 behind the last one.

@@ -1,5 +1,5 @@
 -- A closure is called for each member of a list, and those that stay come one behind the other.
-use Rattle.std.proofs.Common.{◌≡◌, ◌∙◌, refl, sym, ap, suc, Bool, true, false, Option, List, [], ◌∷◌, ◌++◌, append_assoc, append-nil}
+use Rattle.std.proofs.Common.{◌≡◌, ◌∙◌, refl, sym, ap, suc, Bool, true, false, List, [], ◌∷◌, ◌++◌, append_assoc, append-nil}
 use Rattle.std.specs.Borrow.{Bor, MutBor}
 use Rattle.std.specs.Fn.{Called, Mut}
 use Rattle.std.specs.declared.cmp.Ordering.{Ordering}
@@ -8,15 +8,10 @@ use Rattle.std.specs.Cmp.{IsTotalOrder}
 use Rattle.std.specs.List.Retain.{IsFiltered, RetainsInTurn}
 use Rattle.std.specs.List.Sorted.{IsStrictlySortedBy}
 use Rattle.std.specs.Map.{keys_of}
-use Rattle.std.proofs.lemmas.Cmp.{tied_itself}
 use Rattle.std.proofs.lemmas.Map.Keys.{sorted_head, sorted_tail}
-use Rattle.bptree_keys.specs.Contents.{IsAscending, put}
-use Rattle.bptree_keys.proofs.Ascending.{all_before, all_after, all_joined, ascending_cons, ascending_with_value, equal_parts}
-use Rattle.bptree_keys.proofs.Parted.{put_gap}
-use Rattle.bptree_keys.specs.Ranges.{between}
-use Rattle.bptree_map.specs.Keys.{with_key}
-use Rattle.bptree_map.specs.Retaining.{CallsAtPair, IsRetained, IsRetainedUpTo}
-use Rattle.bptree_map.proofs.KeyLemmas.{keys_between-is, keys_outside-is, keys_put}
+use Rattle.bptree_keys.specs.Contents.{IsAscending}
+use Rattle.bptree_keys.proofs.Ascending.{all_before, all_after, all_joined, ascending_cons, ascending_with_value}
+use Rattle.bptree_map.specs.Retaining.{CallsAtPair, IsRetained}
 use Rattle.bptree_map.proofs.KeyLemmas.{keys_append}
 
 module _ {K V : Type 0} {cmp : K → K → Ordering} (total : IsTotalOrder cmp) where
@@ -29,12 +24,7 @@ module _ {K V : Type 0} {cmp : K → K → Ordering} (total : IsTotalOrder cmp) 
       let rest = ascending_without before pair after (sorted_tail cmp p.0 (keys_of (before ++ pair ∷ after)) ascending) in
       ascending_cons cmp p.0 (keys_of (before ++ after)) (all_joined Above before after (all_before Above before (pair ∷ after) above) (all_after Above before (pair ∷ after) above).1) rest
 
-  -- the next pair is put behind those that stay
-  pub put_behind : (kept : List (K × V)) (pair : K × V) (rest : List (K × V)) → IsAscending cmp (kept ++ pair ∷ rest) → (v : V) → put cmp kept pair.0 v ≡ kept ++ (pair.0, v) ∷ []
-  put_behind kept pair rest ascending v =
-      let hit = equal_parts cmp total kept pair rest pair.0 ascending (tied_itself total pair.0) in
-      put_gap cmp kept kept [] pair.0 (record { parts = sym (append-nil kept); smaller = hit.smaller; greater = tt }) v
-
+  -- the next pair stays, with another value
   pub still_ascending : (kept : List (K × V)) (pair : K × V) (rest : List (K × V)) → IsAscending cmp (kept ++ pair ∷ rest) → (v : V) → IsAscending cmp ((kept ++ (pair.0, v) ∷ []) ++ rest)
   still_ascending kept pair rest ascending v = rw (append_assoc kept ((pair.0, v) ∷ []) rest) (ascending_with_value cmp kept pair v rest ascending)
 
@@ -81,14 +71,9 @@ module _ {F K V : Type 0} (calls : Mut F (Bor K × (MutBor V × Unit {0})) (Bool
   called_at called = (refl, record { key = _; value = _; shows = (refl, refl); left = _; called = called; leaves = refl })
 
   module _ (f : F) (old : List (K × V)) (t : F) (kept left : List (K × V)) (asked : AsksOn (IsRetained calls) f old t kept left) (pair : K × V) (rest : List (K × V)) (next : left ≡ pair ∷ rest) (u : F) (after : K × V) where
-    -- the pair stays and is stored, or it stays and is not stored, or it is removed
+    -- the pair stays, or it is removed
     pub pair_stays : CallsAtPair calls t pair true u after → AsksOn (IsRetained calls) f old u (kept ++ after ∷ []) rest
     pair_stays call = one_stays (IsRetained calls) f old t kept pair rest (rw next at asked) u after (retains_one (CallsAtPair calls) t pair u after call)
-
-    pub pair_read : CallsAtPair calls t pair true u after → IsRetainedUpTo calls f old kept after rest
-    pair_read call =
-        let goes = rw next at asked in
-        (goes.0, pair, goes.1, goes.2 (pair ∷ []) (after ∷ []) (retains_one (CallsAtPair calls) t pair u after call [] [] refl))
 
     pub pair_leaves : CallsAtPair calls t pair false u after → AsksOn (IsRetained calls) f old u kept rest
     pair_leaves call = one_leaves (IsRetained calls) f old t kept pair rest (rw next at asked) u (retains_none (CallsAtPair calls) t pair u after call)
@@ -116,13 +101,6 @@ keys_back (k ∷ keys) = ap (λ rest. k ∷ rest) (keys_back keys)
 module _ {K : Type 0} {cmp : K → K → Ordering} (total : IsTotalOrder cmp) (kept : List K) (k : K) (rest : List K) (sorted : IsStrictlySortedBy cmp (kept ++ k ∷ rest)) where
   ascending : IsAscending cmp (as_pairs kept ++ (k, tt) ∷ as_pairs rest)
   ascending = rw (keys_append (as_pairs kept) ((k, tt) ∷ as_pairs rest), keys_back kept, keys_back rest) sorted
-
-  -- the next key is put behind those that stay
-  pub key_behind : with_key cmp kept k ≡ kept ++ k ∷ []
-  key_behind =
-      let put = put_behind total (as_pairs kept) (k, tt) (as_pairs rest) ascending tt in
-      let keys = sym (keys_put cmp (as_pairs kept) k tt) ∙ ap keys_of put ∙ keys_append (as_pairs kept) ((k, tt) ∷ []) in
-      rw (keys_back kept) at keys
 
   pub keys_still_sorted : IsStrictlySortedBy cmp ((kept ++ k ∷ []) ++ rest)
   keys_still_sorted = rw (append_assoc kept (k ∷ []) rest) sorted

@@ -1,8 +1,10 @@
 -- The keys of a set that stay.
-use Rattle.std.specs.Prelude.{◌≡◌, ℕ, Bool, not, ◌&&◌, Option, List, [], ◌∷◌, ◌++◌, filter, Result, Ok}
+use Rattle.std.specs.Prelude.{◌≡◌, ℕ, Bool, not, ◌&&◌, Option, List, [], filter, Result, Ok}
 use Rattle.std.specs.Borrow.{Bor}
 use Rattle.std.specs.Fn.{CalledAt, Mut}
 use Rattle.std.specs.List.Retain.{IsFiltered}
+use Rattle.std.specs.declared.alloc.Global.{Global}
+use Rattle.std.specs.declared.vec.Vec.{Vec}
 use Rattle.std.specs.declared.cmp.Ordering.{Ordering}
 use Rattle.bptree_keys.specs.Ranges.{falls_short, stays_below}
 use Rattle.bptree_map.specs.Keys.{keys_between}
@@ -10,12 +12,11 @@ use Rattle.bptree_map.specs.declared.failures.RetainError.{RetainError}
 use Rattle.bptree_map.specs.declared.failures.RetainError.TheVariants.{NotMade, NotStored}
 
 module _ {F K : Type 0} (calls : Mut F (Bor K × Unit {0}) Bool) where
-  -- an allocation failed: nothing changed; or the closure was called for the keys up to the current
-  -- one, which is to stay, and not for the rest
-  abbrev pub FailsKeyRetain : F → List K → List K → RetainError K (List K) → Type 0
+  -- an allocation failed: nothing has changed, or the keys that stay are in the error and no key is
+  -- left
+  abbrev pub FailsKeyRetain : F → List K → List K → RetainError (Vec K Global) → Type 0
   FailsKeyRetain f old new NotMade = new ≡ old
-  FailsKeyRetain f old new (NotStored hand rest) =
-      (first : List K) × (old ≡ first ++ hand ∷ rest) × IsFiltered (CalledAt calls) f (first ++ hand ∷ []) (new ++ hand ∷ [])
+  FailsKeyRetain f old new (NotStored kept) = (new ≡ []) × IsFiltered (CalledAt calls) f old kept.items
 
 module _ {K : Type 0} (cmp : K → K → Ordering) where
   -- the keys that are below lo, if lo is given, or are not below hi, if hi is given

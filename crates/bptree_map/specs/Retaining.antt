@@ -1,9 +1,11 @@
 -- The members of a list that a closure keeps.
-use Rattle.std.specs.Prelude.{◌≡◌, Bool, List, [], ◌∷◌, ◌++◌}
+use Rattle.std.specs.Prelude.{◌≡◌, Bool, List, []}
 use Rattle.std.specs.Borrow.{Bor, MutBor}
 use Rattle.std.specs.Fn.{Mut}
 use Rattle.std.specs.List.Retain.{RetainsInTurn}
 use Rattle.std.specs.Map.Calls.{CalledAtPair}
+use Rattle.std.specs.declared.alloc.Global.{Global}
+use Rattle.std.specs.declared.vec.Vec.{Vec}
 use Rattle.bptree_map.specs.declared.failures.RetainError.{RetainError}
 use Rattle.bptree_map.specs.declared.failures.RetainError.TheVariants.{NotMade, NotStored}
 
@@ -17,13 +19,8 @@ module _ {F K V : Type 0} (calls : Mut F (Bor K × (MutBor V × Unit {0})) (Bool
   abbrev pub IsRetained : F → List (K × V) → List (K × V) → Type 0
   IsRetained f old new = RetainsInTurn CallsAtPair f old new
 
-  -- the new list has the pairs that stay before the current one, which is to stay too; the closure
-  -- was not called for the rest
-  abbrev pub IsRetainedUpTo : F → List (K × V) → List (K × V) → K × V → List (K × V) → Type 0
-  IsRetainedUpTo f old new hand rest =
-      (first : List (K × V)) × (pair : K × V) × (old ≡ first ++ pair ∷ rest) × IsRetained f (first ++ pair ∷ []) (new ++ hand ∷ [])
-
-  -- the pairs that are left after an allocation failed
-  abbrev pub FailsRetain : F → List (K × V) → List (K × V) → RetainError (K × V) (List (K × V)) → Type 0
+  -- an allocation failed: nothing has changed, or the pairs that stay are in the error and no pair
+  -- is left
+  abbrev pub FailsRetain : F → List (K × V) → List (K × V) → RetainError (Vec (K × V) Global) → Type 0
   FailsRetain f old new NotMade = new ≡ old
-  FailsRetain f old new (NotStored hand rest) = IsRetainedUpTo f old new hand rest
+  FailsRetain f old new (NotStored kept) = (new ≡ []) × IsRetained f old kept.items

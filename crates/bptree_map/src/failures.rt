@@ -1,11 +1,11 @@
 //! The error of `retain`.
 
-/// Why `retain` stopped before it had called the closure for every pair or key.
+/// Why `retain` failed.
 #[derive(Debug, Drop)]
-pub enum RetainError<X, I> {
-    /// The first allocation failed, and nothing has changed.
+pub enum RetainError<P> {
+    /// The first allocations failed. The closure was not called, and nothing has changed.
     NotMade,
-    /// An insertion failed. The error has the pair or key that was not inserted, and those for
-    /// which the closure was not called. Those before it that stay are in the map or set.
-    NotStored(X, I),
+    /// A later allocation, a clone of a key or a summary failed, after the closure was called for
+    /// every pair or key. The error has those that stay, in their order. The map or set is empty.
+    NotStored(P),
 }

@@ -121,6 +121,21 @@ impl<K: Key, V: Drop, A: Argument<K>> BPlusTreeMap<K, V, A> {
         })
     }
 
+    /// A map of pairs whose keys ascend, or these pairs if the map cannot be made.
+    ///
+    /// O(n) for n pairs: each moves once into a leaf. It fails only if an allocation, a clone of a
+    /// key or a summary fails.
+    pub fn from_ascending(pairs: Vec<(K, V)>) -> Result<Self, Vec<(K, V)>>
+        requires { IsAscending K.cmp pairs.items }
+        ensures contents { IfOk result (λ map. map ≡ pairs.items) }
+        ensures returned { IfErr result (λ back. back.items ≡ pairs.items) }
+    {
+        match BPlusTree::from_ascending(pairs) {
+            Ok(inner) => Ok(BPlusTreeMap { inner }),
+            Err(back) => Err(back),
+        }
+    }
+
     // The map of a tree.
     pub(crate) fn of_tree(inner: BPlusTree<NodeStoreVec<K, V, A>>) -> Self
         ensures { result ≡ inner.contents }

@@ -1,4 +1,5 @@
 pub mod BelowLemmas
+pub mod Builds
 pub mod ChainLemmas
 pub mod Cloned
 pub mod Counted

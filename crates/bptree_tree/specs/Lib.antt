@@ -1,4 +1,5 @@
 pub mod Appending
+pub mod Building
 pub mod Chain
 pub mod Changes
 pub mod Cursor

@@ -2,6 +2,7 @@
 //! of nodes.
 #![tactic(auto)]
 
+mod building;
 mod chain;
 pub mod cursor;
 pub mod tree;

@@ -5,7 +5,7 @@ use crate::maps::Maps;
 use crate::record::Record;
 use crate::samples::{Sample, SampleSummary};
 use crate::subject::no_call;
-use crate::walk::{bounds, pairs_of, report_all};
+use crate::walk::{bounds, pairs_of};
 use crate::words::{Report, Words};
 use bptree_map::map::{BPlusTreeMap, RetainError};
 use std::alloc::{AllocError, Global};
@@ -65,25 +65,22 @@ fn split_off<K: Sample, A: SampleSummary<K>>(
     keep_split(&mut maps.there, outcome)
 }
 
-/// Reports why the predicate was not called on all pairs or keys.
-pub fn report_retained<X: Report + Drop, I: DoubleEndedIterator + ExactSizeIterator + Drop>(
-    outcome: Result<(), RetainError<X, I>>,
+/// Reports why the pairs or keys that stay were not stored, and these if they are in the error.
+pub fn report_retained<X: Report + Drop>(
+    outcome: Result<(), RetainError<Vec<X>>>,
     words: &mut Words,
-) -> bool
-where
-    I::Item: Report + Drop,
-    requires { (x : I) → I.can_next x × I.can_next_back x }
-{
+) -> bool {
     match outcome {
         Ok(()) => true,
         Err(RetainError::NotMade) => {
             words.add(0);
             false
         }
-        Err(RetainError::NotStored(pair, mut rest)) => {
+        Err(RetainError::NotStored(kept)) => {
             words.add(1);
-            pair.report(words);
-            report_all(&mut rest, words);
+            for x in kept {
+                x.report(words);
+            }
             false
         }
     }
@@ -112,6 +109,21 @@ fn add_to_each<K: Sample, A: SampleSummary<K>>(
     true
 }
 
+// Removes the pairs between two keys, by the call that never fails if it is wanted and allowed.
+fn remove_range<K: Sample, A: SampleSummary<K>>(
+    map: &mut BPlusTreeMap<K, u64, A>,
+    ends: (Option<&K>, Option<&K>),
+    record: &Record,
+    words: &mut Words,
+) -> bool {
+    let (lo, hi) = ends;
+    if record.c == 1 && K::clones_never_fail() && A::never_fails() {
+        map.remove_range_infallible(lo, hi).report(words);
+        return true;
+    }
+    report_if_ok(map.remove_range(lo, hi), words)
+}
+
 // Makes the calls on the pairs between two keys.
 fn between<K: Sample, A: SampleSummary<K>>(
     alloc: Global,
@@ -123,7 +135,7 @@ fn between<K: Sample, A: SampleSummary<K>>(
         return false;
     };
     if record.member() == 4 {
-        return report_if_ok(map.remove_range(lo.as_ref(), hi.as_ref()), words);
+        return remove_range(map, (lo.as_ref(), hi.as_ref()), record, words);
     }
     let more = record.c;
     map.update_range(lo.as_ref(), hi.as_ref(), |_key: &K, value: &mut u64| {

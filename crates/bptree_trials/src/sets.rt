@@ -212,7 +212,12 @@ fn remove_range<K: Sample>(
     let Ok((lo, hi)) = bounds::<K>(alloc, record) else {
         return false;
     };
-    report_if_ok(set.remove_range(lo.as_ref(), hi.as_ref()), words)
+    let (lo, hi) = (lo.as_ref(), hi.as_ref());
+    if record.c == 1 && K::clones_never_fail() {
+        set.remove_range_infallible(lo, hi).report(words);
+        return true;
+    }
+    report_if_ok(set.remove_range(lo, hi), words)
 }
 
 // Makes the calls that move or remove many keys.

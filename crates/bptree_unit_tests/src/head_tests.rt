@@ -1,6 +1,6 @@
 //! Heads that were computed by hand, and the order of strings whose heads agree or differ.
 
-use bptree_heads::head::{HasHead, head_of};
+use bptree_heads::head::{HasHead, compare, head_of};
 use bptree_heads::headed::Headed;
 use bptree_keys::key::Key;
 use std::alloc::{AllocError, Global};
@@ -105,6 +105,51 @@ fn are_compared_by_heads(alloc: Global) -> Result<bool, AllocError> {
     let same = headed(alloc, "abcdefghb")?;
     let other = headed(alloc, "abcdefgi")?;
     Ok(!first.compares_in_place(&same) && first.compares_in_place(&other))
+}
+
+// Strings of which each but the first differs from the first at one byte: in the head, at either end
+// of the words behind it, and in the bytes that are too few for a word.
+const WORDS: [&str; 9] = [
+    "abcdefghijklmnopqrstuvwxyz",
+    "Abcdefghijklmnopqrstuvwxyz",
+    "abcdefg~ijklmnopqrstuvwxyz",
+    "abcdefghIjklmnopqrstuvwxyz",
+    "abcdefghijklmno~qrstuvwxyz",
+    "abcdefghijklmnopQrstuvwxyz",
+    "abcdefghijklmnopqrstuvw~yz",
+    "abcdefghijklmnopqrstuvwxYz",
+    "abcdefghijklmnopqrstuvwxy~",
+];
+
+// Whether two strings of bytes compare by their heads as they do byte by byte.
+fn is_compared(one: &[u8], other: &[u8]) -> bool {
+    let ordering = compare(head_of(one), one, head_of(other), other);
+    ordering == one.cmp(other)
+}
+
+// Whether all prefixes of two strings compare by their heads as they do byte by byte.
+fn prefixes_are_compared(one: &[u8], other: &[u8]) -> bool {
+    let mut well = true;
+    for len in 0..one.len() + 1 {
+        for other_len in 0..other.len() + 1 {
+            well &= is_compared(&one[..len], &other[..other_len]);
+        }
+    }
+    well
+}
+
+fn words_are_compared() -> bool {
+    let mut well = true;
+    for word in WORDS.iter() {
+        well &= prefixes_are_compared(WORDS[0].as_bytes(), word.as_bytes());
+        well &= prefixes_are_compared(word.as_bytes(), WORDS[0].as_bytes());
+    }
+    well
+}
+
+#[test]
+fn bytes_are_compared_by_words(rt: HostRuntime) {
+    assert!(rt; words_are_compared());
 }
 
 #[test]

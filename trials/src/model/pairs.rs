@@ -174,11 +174,6 @@ impl Pairs {
         self.keys.clear();
     }
 
-    /// The pairs from one index up to another.
-    pub fn part(&self, from: usize, to: usize) -> Vec<(u64, u64)> {
-        (from..to).filter_map(|place| self.at(place)).collect()
-    }
-
     pub fn all(&self) -> Vec<(u64, u64)> {
         let pair = |(key, value): (&Key, &u64)| (key.word(), *value);
         self.map.iter().map(pair).collect()

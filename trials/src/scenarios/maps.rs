@@ -87,7 +87,8 @@ fn moved(many: u64, takes_memory: bool) -> Vec<Step> {
 }
 
 // From a map of many pairs those between two keys are removed: in the middle, at both ends, all, few,
-// no pair, those of one leaf, and all but one.
+// no pair, those of one leaf, and all but one. Every other range is removed by the call that never
+// fails, if the keys and summaries allow it.
 fn ranges_removed(many: u64) -> Vec<Step> {
     let half = many / 2;
     let ranges = [
@@ -101,8 +102,13 @@ fn ranges_removed(many: u64) -> Vec<Step> {
         (Some(1), Some(many)),
         (None, Some(many - 1)),
     ];
-    let steps = ranges.map(|ends| [quiet(calls::load(many, 0)), swept(call(8, 4, &range(ends)))]);
-    steps.concat()
+    let mut steps = Vec::new();
+    for (number, ends) in (0..).zip(ranges) {
+        let [lo, hi, _, bits] = range(ends);
+        steps.push(quiet(calls::load(many, 0)));
+        steps.push(swept(call(8, 4, &[lo, hi, number % 2, bits])));
+    }
+    steps
 }
 
 /// How many pairs a map is loaded with, the word for that, its height after all, and the pairs that

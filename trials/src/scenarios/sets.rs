@@ -26,7 +26,7 @@ fn moved(many: u64) -> Vec<Step> {
         calls::insert(7, 0),
         call(0, 6, &[5]),
         call(8, 3, &[1, 1]),
-        call(8, 4, &[0, 20, 0, LOWER | UPPER]),
+        call(8, 4, &[0, 20, 1, LOWER | UPPER]),
     ];
     all.extend(moves.iter().map(|record| swept(*record)));
     all

@@ -1,51 +1,36 @@
 //! The pairs of a map that a closure keeps, and those outside a range.
 ghost use Rattle.std.specs.Prelude.{◌≡◌, length, IfErr, IfOk, OnErr, OnOk};
 ghost use Rattle.bptree_propagation.specs.Failing.{OkIs};
+ghost use Rattle.bptree_keys.specs.Keys.{AllInfallible};
 ghost use Rattle.bptree_map.specs.Retaining.{IsRetained, FailsRetain};
 ghost use Rattle.bptree_tree.specs.RangeRemoval.{outside, KeepsAllIfNone, KeepsOutside};
 ghost use Rattle.bptree_tree.specs.Entries.{pairs_between};
 
-use super::{BPlusTreeMap, IntoIter};
+use super::BPlusTreeMap;
 use crate::failures::RetainError;
 use crate::retaining::retain_in_tree;
 use bptree_arguments::argument::Argument;
 use bptree_keys::key::Key;
-use bptree_stores::node_store_vec::NodeStoreVec;
-use bptree_tree::tree;
 use std::alloc::AllocError;
-
-// An error of `retain` with the pairs that are left as a map's.
-fn of_map<K: Key, V: Drop, A: Argument<K>>(
-    refusal: RetainError<(K, V), tree::IntoIter<NodeStoreVec<K, V, A>>>,
-) -> RetainError<(K, V), IntoIter<K, V, A>>
-    ensures { result ≡ refusal }
-{
-    match refusal {
-        RetainError::NotMade => RetainError::NotMade,
-        RetainError::NotStored(pair, rest) => RetainError::NotStored(pair, IntoIter::new(rest)),
-    }
-}
 
 impl<K: Key, V: Drop, A: Argument<K>> BPlusTreeMap<K, V, A> {
     /// Keeps the pairs for which a closure returns true, in the order of their keys, with the
     /// values that it leaves, and drops the others.
     ///
-    /// O(n log n) at most; the pairs that stay are inserted in their order into a new map. It fails
-    /// only if an allocation, a clone of a key or a summary fails. If the first allocation fails,
-    /// the map is unchanged. Otherwise the error returns the pair that was not inserted and the
-    /// pairs for which the closure was not called, and the map has those before them that stay.
+    /// O(n). The pairs that stay move to a vector, and from there to the leaves of a new map. Before
+    /// the first call of the closure it allocates one leaf, and the vector with room for all pairs;
+    /// if that fails, nothing changes. Then it calls the closure for every pair. It fails too if an
+    /// allocation for the new map, a clone of a key or a summary fails: the error then has the pairs
+    /// that stay, and the map is empty.
     pub fn retain<F: FnMut(&K, &mut V) -> bool>(
         &mut self,
         f: F,
-    ) -> Result<(), RetainError<(K, V), IntoIter<K, V, A>>>
+    ) -> Result<(), RetainError<Vec<(K, V)>>>
         requires { F.IsAlwaysCallable f }
         ensures ok { OnOk result (IsRetained F.FnMut f self.old self.new) }
         ensures err { IfErr result (FailsRetain F.FnMut f self.old self.new) }
     {
-        match retain_in_tree(&mut self.inner, f) {
-            Ok(()) => Ok(()),
-            Err(refusal) => Err(of_map(refusal)),
-        }
+        retain_in_tree(&mut self.inner, f)
     }
 
     /// Removes the pairs whose key is not below `lo` and is below `hi`, if they are given, and
@@ -69,5 +54,18 @@ impl<K: Key, V: Drop, A: Argument<K>> BPlusTreeMap<K, V, A> {
         ensures unchanged { OnErr result (self.new ≡ self.old) }
     {
         self.inner.remove_range(lo, hi)
+    }
+
+    /// Removes the pairs as `remove_range` does, and returns their number, for a map that needs no
+    /// memory to remove a pair: no clone of a key fails, and no summary allocates.
+    ///
+    /// As `remove_range`, and O(log n) for each pair that is removed if an allocation fails. It
+    /// cannot fail.
+    pub fn remove_range_infallible<'b>(&mut self, lo: Option<&'b K>, hi: Option<&'b K>) -> usize
+        requires infallible { A.needs_no_memory × AllInfallible K.is_infallible }
+        ensures rest { KeepsOutside K.cmp lo.entry hi.entry self.old self.new }
+        ensures count { result ≡ length (pairs_between K.cmp self.old lo.entry hi.entry) }
+    {
+        self.inner.remove_range_infallible(lo, hi)
     }
 }

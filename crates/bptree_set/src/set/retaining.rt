@@ -1,59 +1,72 @@
 //! The keys of a set that a closure keeps, and those outside a range.
-ghost use Rattle.std.specs.Prelude.{◌≡◌, length, IfErr, IfOk, OnErr, OnOk};
+ghost use Rattle.std.specs.Prelude.{◌≡◌, ◌+◌, ◌≤◌, [], length, vec_capacity, vec_len, IfErr, IfOk, OnErr, OnOk};
 ghost use Rattle.std.specs.Fn.{CalledAt};
 ghost use Rattle.std.specs.List.Retain.{IsFiltered};
+ghost use Rattle.std.specs.Map.{keys_of};
 ghost use Rattle.std.specs.Option.{option_copied as given};
+ghost use Rattle.bptree_keys.specs.Keys.{AllInfallible};
 ghost use Rattle.bptree_map.specs.Keys.{keys_between};
 ghost use Rattle.bptree_map.specs.RetainedKeys.{keys_outside, FailsKeyRetain, KeepsAllIfNoKey};
-ghost use Rattle.bptree_tree.specs.Returning.{pair_of};
 
-use super::{BPlusTreeSet, IntoIter};
+use super::BPlusTreeSet;
 use bptree_keys::key::Key;
 use bptree_map::failures::RetainError;
 use bptree_map::map::BPlusTreeMap;
 use bptree_stores::node_stores::NodeStore;
-use bptree_tree::InsertError;
 use std::alloc::AllocError;
 use std::mem;
 
-// The key that the error of an insertion returns.
-fn key_back<K: Drop>(refusal: InsertError<K, ()>) -> K
-    ensures { result ≡ (pair_of refusal).0 }
+// Moves the keys of some pairs to an empty vector.
+fn move_keys<K: Drop>(pairs: Vec<(K, ())>, keys: &mut Vec<K>)
+    requires none { keys.old.items ≡ [] }
+    requires room { vec_len keys.old + length pairs.items ≤ vec_capacity keys.old }
+    ensures { keys.new.items ≡ keys_of pairs.items }
 {
-    match refusal {
-        InsertError::OutOfMemory(k, ()) => k,
-        InsertError::Full(k, ()) => k,
+    let mut rest = pairs.into_iter();
+    'pairs: while let Some((k, ())) = rest.next() {
+        keys.push_reserved(k);
     }
 }
 
 impl<K: Key> BPlusTreeSet<K> {
     /// Keeps the keys for which a closure returns true, in their order, and drops the others.
     ///
-    /// O(n log n) at most; the keys that stay are inserted in their order into a new set. It fails
-    /// only if an allocation or a clone of a key fails. If the first allocation fails, the set is
-    /// unchanged. Otherwise the error returns the key that was not inserted and the keys for which
-    /// the closure was not called, and the set has those before them that stay.
-    pub fn retain<F: FnMut(&K) -> bool>(
-        &mut self,
-        mut f: F,
-    ) -> Result<(), RetainError<K, IntoIter<K>>>
+    /// O(n). The keys that stay move to a vector, and from there to the leaves of a new set. Before
+    /// the first call of the closure it allocates one leaf, and two vectors with room for all keys;
+    /// if that fails, nothing changes. Then it calls the closure for every key. It fails too if an
+    /// allocation for the new set or a clone of a key fails: the error then has the keys that stay,
+    /// and the set is empty.
+    pub fn retain<F: FnMut(&K) -> bool>(&mut self, mut f: F) -> Result<(), RetainError<Vec<K>>>
         requires { F.IsAlwaysCallable f }
         ensures ok { OnOk result (IsFiltered (CalledAt F.FnMut) f self.old self.new) }
         ensures err { IfErr result (FailsKeyRetain F.FnMut f self.old self.new) }
     {
-        let Ok(fresh) = BPlusTreeMap::new(self.tree().node_store().allocator()) else {
+        let alloc = self.tree().node_store().allocator();
+        let Ok(fresh) = BPlusTreeMap::new(alloc) else {
+            return Err(RetainError::NotMade);
+        };
+        let Ok(mut kept) = Vec::with_capacity(alloc, self.len()) else {
+            return Err(RetainError::NotMade);
+        };
+        let Ok(mut spare) = Vec::with_capacity(alloc, self.len()) else {
             return Err(RetainError::NotMade);
         };
         let mut keys = mem::replace(&mut self.map, fresh).into_keys();
         'keys: while let Some(k) = keys.next() {
             if f(&k) {
-                match self.insert(k) {
-                    Ok(_) => {}
-                    Err(refusal) => return Err(RetainError::NotStored(key_back(refusal), keys)),
-                }
+                kept.push_reserved((k, ()));
             }
         }
-        Ok(())
+        match BPlusTreeMap::from_ascending(kept) {
+            Ok(map) => {
+                self.map = map;
+                Ok(())
+            }
+            Err(back) => {
+                move_keys(back, &mut spare);
+                Err(RetainError::NotStored(spare))
+            }
+        }
     }
 
     /// Removes the keys that are not below `lo` and are below `hi`, if they are given, and returns
@@ -77,5 +90,18 @@ impl<K: Key> BPlusTreeSet<K> {
         ensures unchanged { OnErr result (self.new ≡ self.old) }
     {
         self.map.remove_range(lo, hi)
+    }
+
+    /// Removes the keys as `remove_range` does, and returns their number, for a set of keys whose
+    /// clones never fail.
+    ///
+    /// As `remove_range`, and O(log n) for each key that is removed if an allocation fails. It
+    /// cannot fail.
+    pub fn remove_range_infallible<'b>(&mut self, lo: Option<&'b K>, hi: Option<&'b K>) -> usize
+        requires infallible { AllInfallible K.is_infallible }
+        ensures rest { self.new ≡ keys_outside K.cmp self.old (given lo.entry) (given hi.entry) }
+        ensures count { result ≡ length (keys_between K.cmp self.old (given lo.entry) (given hi.entry)) }
+    {
+        self.map.remove_range_infallible(lo, hi)
     }
 }

@@ -158,4 +158,25 @@ impl<S: NodeStore> BPlusTree<S> {
             }
         }
     }
+
+    /// Removes the pairs as `remove_range` does, and returns their number, for a tree that needs no
+    /// memory to remove a pair: no clone of a key fails, and no summary allocates.
+    ///
+    /// As `remove_range`, and O(log n) for each pair that is removed if an allocation fails. It
+    /// cannot fail.
+    pub fn remove_range_infallible<'b>(
+        &mut self,
+        lo: Option<&'b S::K>,
+        hi: Option<&'b S::K>,
+    ) -> usize
+        requires infallible { S.Argument.needs_no_memory × AllInfallible S.K.is_infallible }
+        ensures whole { IsWhole S.K.cmp S.Argument.is_summary S.slots self.new }
+        ensures rest { KeepsOutside S.K.cmp lo.entry hi.entry self.old.contents self.new.contents }
+        ensures count { result ≡ length (pairs_between S.K.cmp self.old.contents lo.entry hi.entry) }
+    {
+        match self.remove_range(lo, hi) {
+            Ok(gone) => gone,
+            Err(_) => self.remove_each(lo, hi),
+        }
+    }
 }
