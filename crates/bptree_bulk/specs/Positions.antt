@@ -5,7 +5,7 @@ use Rattle.bptree_keys.specs.declared.node_id.LeafNodeId.{LeafNodeId}
 use Rattle.bptree_keys.specs.declared.node_id.Position.{Position}
 use Rattle.bptree_nodes.specs.Inner.{Inner}
 use Rattle.bptree_nodes.specs.Leaf.{Leaf}
-use Rattle.bptree_nodes.specs.Slot.{Slots}
+use Rattle.bptree_nodes.specs.Slot.{Present, Slots}
 use Rattle.bptree_ranges.specs.Ranges.{index_on, IsSettled}
 use Rattle.bptree_invariant.specs.Leaves.{pairs_of}
 use Rattle.bptree_invariant.specs.NodeTree.{NodeTree}
@@ -22,6 +22,10 @@ module _ {S K V A : Type 0} (slots : S → Slots (Inner K A) (Leaf K V)) (tree :
   -- the position is that of a pair, or the end
   abbrev pub IsAtPair : Position → Type 0
   IsAtPair at = IsSettled (slots tree.store) tree.height tree.root (index_of_position at) at
+
+  -- the leaf of a position is this one
+  abbrev pub IsLeafOfPosition : Position → Leaf K V → Type 0
+  IsLeafOfPosition at leaf = (slots tree.store).leaf at.leaf.0 ≡ Present leaf
 
   -- pairs are before a position, and one is at it or behind it
   abbrev pub IsInside : Position → Type 0

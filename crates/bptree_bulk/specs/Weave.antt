@@ -4,13 +4,11 @@ use Rattle.std.specs.declared.cmp.Ordering.{Ordering}
 use Rattle.std.specs.declared.vec.Vec.{Vec}
 use Rattle.std.specs.declared.cmp.Ordering.TheVariants.{Less, Equal, Greater}
 use Rattle.bptree_bulk.specs.Filling.{IsFilling}
-use Rattle.bptree_bulk.specs.Positions.{rest_of, IsAtPair}
 use Rattle.bptree_bulk.specs.Split.{HasLeavesFor}
-use Rattle.bptree_bulk.specs.declared.weaving.Steps.{Steps}
 use Rattle.bptree_bulk.specs.declared.weaving.Source.{Source}
 use Rattle.bptree_bulk.specs.declared.weaving.Source.TheVariants.{First, Second, Both}
 use Rattle.bptree_bulk.specs.declared.weaving.Weave.{Weave}
-use Rattle.bptree_keys.specs.Contents.{put, IsAscending}
+use Rattle.bptree_keys.specs.Contents.{put}
 use Rattle.bptree_nodes.specs.Inner.{Inner}
 use Rattle.bptree_nodes.specs.Leaf.{Leaf}
 use Rattle.bptree_nodes.specs.Slot.{Slots}
@@ -76,48 +74,17 @@ module _ {K V : Type 0} where
   abbrev pub Weaves : (K → K → Ordering) → List Source → List (K × V) → List (K × V) → Type 0
   Weaves cmp steps a b = Goes cmp steps a b [] []
 
+module _ {K V : Type 0} (cmp : K → K → Ordering) where
+  -- the steps lead from two lists to some rest of both
+  abbrev pub WeaveLeadsOn : List Source → List (K × V) → List (K × V) → Type 0
+  WeaveLeadsOn steps a b = (to : List (K × V) × List (K × V)) × Goes cmp steps a b to.0 to.1
+
+module _ {S K V A : Type 0} (first second : NodeTree S K V A) where
+  -- the steps take all pairs of both trees
+  abbrev pub WeavesAll : {Z : Type 0} → (K → K → Ordering) → Vec Source Z → Type 0
+  WeavesAll cmp steps = Weaves cmp steps.items first.contents second.contents
+
 module _ {S K V A : Type 0} (slots : S → Slots (Inner K A) (Leaf K V)) (first second : NodeTree S K V A) where
-  -- both positions are those of pairs, or the end
-  abbrev pub AreIndexes : Steps → Type 0
-  AreIndexes at = IsAtPair slots first at.first × IsAtPair slots second at.second
-
-  -- the pairs from both positions on are these
-  abbrev pub Leaves : Steps → List (K × V) → List (K × V) → Type 0
-  Leaves at a b = (rest_of slots first at.first ≡ a) × (rest_of slots second at.second ≡ b)
-
-  module _ (cmp : K → K → Ordering) where
-    -- the source of the next pair, if there is one
-    abbrev pub next_from : Steps → Option Source
-    next_from at = next_source cmp (rest_of slots first at.first) (rest_of slots second at.second)
-
-    -- the next pair is of this source
-    abbrev pub IsNext : Steps → Source → Type 0
-    IsNext at source = next_from at ≡ Some source
-
-    -- the steps lead from one pair of positions to another
-    abbrev pub Leads : List Source → Steps → Steps → Type 0
-    Leads steps from to = Goes cmp steps (rest_of slots first from.first) (rest_of slots second from.second) (rest_of slots first to.first) (rest_of slots second to.second)
-
-    -- the steps lead to some rest of both lists
-    abbrev pub WeaveLeadsOn : List Source → Steps → Type 0
-    WeaveLeadsOn steps from = (to : List (K × V) × List (K × V)) × Goes cmp steps (rest_of slots first from.first) (rest_of slots second from.second) to.0 to.1
-
-    -- the steps take all pairs of both trees
-    abbrev pub WeavesAll : {Z : Type 0} → Vec Source Z → Type 0
-    WeavesAll steps = Weaves cmp steps.items first.contents second.contents
-
-  -- the pair of a step from these positions
-  abbrev pub pair_from : Source → Steps → List (K × V)
-  pair_from source at = step_pair source (rest_of slots first at.first) (rest_of slots second at.second)
-
-  -- the pairs of the steps from these positions on
-  abbrev pub woven_from : List Source → Steps → List (K × V)
-  woven_from steps at = woven steps (rest_of slots first at.first) (rest_of slots second at.second)
-
-  -- the keys of the steps' pairs ascend
-  abbrev pub AscendsFrom : (K → K → Ordering) → List Source → Steps → Type 0
-  AscendsFrom cmp steps at = IsAscending cmp (woven_from steps at)
-
   -- everything is ready to make one tree of both
   pub record IsWeave (cmp : K → K → Ordering) (is_summary : A → List K → Type 0) (weave : Weave S K V A) : Type 0 where
     pub weaves : Weaves cmp weave.steps.items first.contents second.contents

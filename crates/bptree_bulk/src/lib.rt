@@ -2,6 +2,7 @@
 //! move.
 #![tactic(auto)]
 
+mod ahead;
 mod around;
 mod cut;
 pub mod filling;

@@ -9,6 +9,7 @@ ghost use Rattle.bptree_bulk.specs.Split.{HasLeavesFor};
 ghost use Rattle.bptree_keys.specs.Keys.{AllInfallible};
 ghost use Rattle.bptree_invariant.specs.NodeTree.{IsWhole};
 
+use crate::ahead::key_in;
 use crate::filling::{Filling, filling_of, plant_filling, size_of};
 use bptree_arguments::argument::Argument;
 use bptree_bulk_load::plan::{Plan, empty_plan, plan_part};
@@ -71,12 +72,7 @@ pub(crate) fn key_from<'a, S: NodeStore>(tree: &'a Nodes<S>, at: Position) -> Op
     ensures { option_copied result ≡ first_key (rest_of S.slots tree.now at) }
 {
     tree.recall();
-    let leaf = tree.store.get_leaf(at.leaf);
-    if at.slot < leaf.len() {
-        Some(leaf.data_at(at.slot).0)
-    } else {
-        None
-    }
+    key_in(tree, tree.store.get_leaf(at.leaf), at)
 }
 
 // Plans a leaf behind others, for the pairs from one position up to another.

@@ -11,8 +11,8 @@
 #include <stddef.h>
 #include <stdint.h>
 
-#define SWEEP_BPTREE_VERSION "0.10.0"
-#define SWEEP_BPTREE_VERSION_NUMBER 10000
+#define SWEEP_BPTREE_VERSION "0.10.1"
+#define SWEEP_BPTREE_VERSION_NUMBER 10001
 
 #ifdef __cplusplus
 extern "C" {

@@ -14,6 +14,11 @@ use Rattle.bptree_keys.proofs.Ascending.{all_before, all_after, all_joined, asce
 use Rattle.bptree_map.specs.Retaining.{CallsAtPair, IsRetained}
 use Rattle.bptree_map.proofs.KeyLemmas.{keys_append}
 
+-- what holds in both cases holds
+pub in_both : {P : Type 0} (b : Bool) → (b ≡ true → P) → (b ≡ false → P) → P
+in_both true with without = with refl
+in_both false with without = without refl
+
 module _ {K V : Type 0} {cmp : K → K → Ordering} (total : IsTotalOrder cmp) where
   -- an ascending list without a pair ascends
   pub ascending_without : (before : List (K × V)) (pair : K × V) (after : List (K × V)) → IsAscending cmp (before ++ pair ∷ after) → IsAscending cmp (before ++ after)

@@ -5,4 +5,4 @@ mod comparing;
 pub mod failures;
 pub mod gathering;
 pub mod map;
-mod retaining;
+pub mod retaining;

@@ -1,5 +1,5 @@
 //! The pairs of a tree that a closure keeps.
-ghost use Rattle.std.specs.Prelude.{◌≡◌, ◌+◌, ◌≤◌, ◌++◌, length, vec_capacity, vec_len, IfErr, OnOk};
+ghost use Rattle.std.specs.Prelude.{◌≡◌, ◌+◌, ◌<◌, ◌≤◌, ◌++◌, ◌∷◌, [], false, length, true, vec_capacity, vec_len, IfErr, OnOk};
 ghost use Rattle.bptree_keys.specs.Contents.{IsAscending};
 ghost use Rattle.bptree_map.specs.Retaining.{IsRetained, FailsRetain};
 
@@ -7,6 +7,25 @@ use crate::failures::RetainError;
 use bptree_stores::node_stores::NodeStore;
 use bptree_tree::BPlusTree;
 use std::mem;
+
+/// Appends an item to a vector that has room for it if the item stays, and drops it otherwise.
+///
+/// Which items stay is hard to predict. If a drop of an item does nothing, the compiled code has no
+/// branch on `stays`.
+///
+/// O(1). It allocates nothing and cannot fail.
+#[inline(always)]
+pub fn push_if<T: Drop>(items: &mut Vec<T>, item: T, stays: bool)
+    requires { vec_len items.old < vec_capacity items.old }
+    ensures stays { stays ≡ true → items.new.items ≡ items.old.items ++ item ∷ [] }
+    ensures leaves { stays ≡ false → items.new.items ≡ items.old.items }
+    ensures len { vec_len items.new ≤ vec_len items.old + 1 }
+    ensures capacity { vec_capacity items.new ≡ vec_capacity items.old }
+{
+    let len = items.len();
+    items.push_reserved(item);
+    items.truncate(if stays { len + 1 } else { len });
+}
 
 // Keeps the pairs for which a closure returns true, with the values that it leaves.
 pub(crate) fn retain_in_tree<S: NodeStore, F: FnMut(&S::K, &mut S::V) -> bool>(
@@ -27,9 +46,8 @@ pub(crate) fn retain_in_tree<S: NodeStore, F: FnMut(&S::K, &mut S::V) -> bool>(
     let mut pairs = mem::replace(tree, fresh).into_iter();
     'pairs: while let Some((k, v)) = pairs.next() {
         let mut value = v;
-        if f(&k, &mut value) {
-            kept.push_reserved((k, value));
-        }
+        let stays = f(&k, &mut value);
+        push_if(&mut kept, (k, value), stays);
     }
     match BPlusTree::from_ascending(kept) {
         Ok(all) => {

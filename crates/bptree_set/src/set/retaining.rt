@@ -12,6 +12,7 @@ use super::BPlusTreeSet;
 use bptree_keys::key::Key;
 use bptree_map::failures::RetainError;
 use bptree_map::map::BPlusTreeMap;
+use bptree_map::retaining::push_if;
 use bptree_stores::node_stores::NodeStore;
 use std::alloc::AllocError;
 use std::mem;
@@ -53,9 +54,8 @@ impl<K: Key> BPlusTreeSet<K> {
         };
         let mut keys = mem::replace(&mut self.map, fresh).into_keys();
         'keys: while let Some(k) = keys.next() {
-            if f(&k) {
-                kept.push_reserved((k, ()));
-            }
+            let stays = f(&k);
+            push_if(&mut kept, (k, ()), stays);
         }
         match BPlusTreeMap::from_ascending(kept) {
             Ok(map) => {

@@ -167,6 +167,9 @@ impl<S: NodeStore> Iterator for IntoIter<S> {
 
     ghost remaining = { item_count (λ left. left) };
 
+    // A call would return the pair in memory, written as two words and read as one, and the
+    // processor waits for such a read.
+    #[inline(always)]
     fn next(&mut self) -> Option<(S::K, S::V)> {
         self.pair_at(End::Front)
     }

@@ -2,9 +2,8 @@ use Rattle.std.proofs.Common.{◌≡◌, ◌∙◌, ◌+◌, ◌-◌, ◌∷◌,
 use Rattle.std.specs.List.{AllByRecursion}
 use Rattle.bptree_bulk_load.proofs.Standing.{drop_all}
 use Rattle.bptree_bulk.specs.Filling.{AreParts, IsEmptyLeaf, IsLaidOut, IsSize}
-use Rattle.bptree_bulk.specs.Positions.{rest_of}
 use Rattle.bptree_bulk.specs.Split.{HasLeavesFor}
-use Rattle.bptree_bulk.specs.Weave.{woven, woven_from}
+use Rattle.bptree_bulk.specs.Weave.{woven}
 use Rattle.bptree_bulk.proofs.Tails.{sized}
 use Rattle.bptree_bulk.proofs.Weaves.{some_steps, steps_within, woven_ascends, woven_length}
 use Rattle.bptree_bulk.proofs.Woven.{goes_on, own_ascends, own_leads, part_on, rest_on, IsUnderway}
@@ -15,7 +14,7 @@ use Rattle.bptree_bulk.proofs.weaving.plan_weave.Goals as goal
 
 -- the number of steps so far
 way : (g : Over) (c : After-deref g)
-    → IsUnderway g.S.K.Ord.cmp c.in_ok-steps.steps.items c.args.first.now.contents c.args.second.now.contents c.parts.done (rest_of g.S.NodeStore.slots c.args.first.now c.parts.at.first) (rest_of g.S.NodeStore.slots c.args.second.now c.parts.at.second)
+    → IsUnderway g.S.K.Ord.cmp c.in_ok-steps.steps.items c.args.first.now.contents c.args.second.now.contents c.parts.done c.parts.ones c.parts.others
 way g c = record { up = c.recall.ensures.ascending; up' = c.recall-2.ensures.ascending; goes = c.parts.invariant.goes; rest = c.parts.invariant.rest }
 
 -- the number of steps of the next part
@@ -44,7 +43,7 @@ laid g c =
     let weaves = c.in_ok-steps.ensures in
     record {
       parts = inv.parts;
-      are = subst (AreParts (woven steps A B) inv.parts) (ap (λ l. woven_from g.S.NodeStore.slots c.args.first.now c.args.second.now l c.parts.at) none) inv.are;
+      are = subst (AreParts (woven steps A B) inv.parts) (ap (λ l. woven l c.parts.ones c.parts.others) none) inv.are;
       planned = inv.planned;
       empty = inv.empty;
       as_many = inv.as_many;
@@ -68,27 +67,23 @@ pub parts-preserved : goal.parts-preserved
 parts-preserved g c =
     let at = (goal.at.parts-preserved g c).After-deref in
     let total = g.met.S.K.Ord.total in
-    let slots = g.S.NodeStore.slots in
     let n = c.parts.done in
     let size = c.size_of-size.result in
-    let first = c.args.first.now in
-    let second = c.args.second.now in
-    let x = rest_of slots first c.in_ok-at.at.first in
-    let y = rest_of slots second c.in_ok-at.at.second in
+    let x = c.plan_steps.new.first in
+    let y = c.plan_steps.new.second in
     let inv = c.parts.invariant in
-    let leads = c.in_ok-at.ensures.leads in
-    let these = woven_from slots first second (take (n + size - n) (drop n c.deref.result.now)) c.parts.at in
+    let leads = c.in_ok-plan_steps.ensures.leads in
+    let these = woven (take (n + size - n) (drop n c.deref.result.now)) c.parts.ones c.parts.others in
     record {
       within = fits g at;
-      at = c.in_ok-at.ensures.at;
       goes = goes_on total (way g at) size (fits g at) (own g at) x y leads;
       rest = rest_on total (way g at) size (fits g at) (own g at) x y leads;
       parts = inv.parts ++ these ∷ [];
       are = part_on total (way g at) size (fits g at) (own g at) x y leads inv.parts (is_size g at) (omega (arith, c.parts-test.true, c.len.ensures)) inv.are;
-      planned = c.in_ok-at.ensures.planned inv.parts inv.planned;
+      planned = c.in_ok-plan_steps.ensures.planned inv.parts inv.planned;
       empty = subst (AllByRecursion IsEmptyLeaf) (sym c.in_ok-push.ensures.items) (AllByRecursion-append IsEmptyLeaf c.parts.rooms.items (c.in_ok-room.room ∷ []) inv.empty (ap (λ l. l.pairs) c.in_ok-room.ensures, tt));
       as_many = omega (arith, inv.as_many, ap length c.in_ok-push.ensures.items, length-append c.parts.rooms.items (c.in_ok-room.room ∷ []), length-append inv.parts (these ∷ []));
-      room = c.in_ok-at.ensures.room;
+      room = c.in_ok-plan_steps.ensures.room;
     }
 
 pub filling_of-requires : goal.filling_of-requires

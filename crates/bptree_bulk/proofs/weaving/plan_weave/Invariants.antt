@@ -4,18 +4,16 @@ use Rattle.std.specs.Prelude.{vec_capacity}
 use Rattle.std.specs.List.{AllByRecursion}
 use Rattle.bptree_bulk_load.specs.Rooms.{ArePlanned}
 use Rattle.bptree_bulk.specs.Filling.{AreParts, IsEmptyLeaf}
-use Rattle.bptree_bulk.specs.Positions.{rest_of}
-use Rattle.bptree_bulk.specs.Weave.{woven, woven_from, AreIndexes, Goes, Weaves}
+use Rattle.bptree_bulk.specs.Weave.{woven, Goes, Weaves}
 use Rattle.bptree_bulk.proofs.weaving.plan_weave.Given as goal
 
 abbrev pub invariant-parts : goal.invariant-parts
 invariant-parts g l = record {
   within : l.done ≤ length l.steps.items;
-  at : AreIndexes g.S.NodeStore.slots l.fn.first l.fn.second l.at;
-  goes : Goes g.S.K.Ord.cmp (take l.done l.steps.items) l.fn.first.contents l.fn.second.contents (rest_of g.S.NodeStore.slots l.fn.first l.at.first) (rest_of g.S.NodeStore.slots l.fn.second l.at.second);
-  rest : Weaves g.S.K.Ord.cmp (drop l.done l.steps.items) (rest_of g.S.NodeStore.slots l.fn.first l.at.first) (rest_of g.S.NodeStore.slots l.fn.second l.at.second);
+  goes : Goes g.S.K.Ord.cmp (take l.done l.steps.items) l.fn.first.contents l.fn.second.contents l.ones l.others;
+  rest : Weaves g.S.K.Ord.cmp (drop l.done l.steps.items) l.ones l.others;
   parts : List (List (g.row.S-K.Denot × g.row.S-V.Denot));
-  are : AreParts (woven l.steps.items l.fn.first.contents l.fn.second.contents) parts (woven_from g.S.NodeStore.slots l.fn.first l.fn.second (drop l.done l.steps.items) l.at);
+  are : AreParts (woven l.steps.items l.fn.first.contents l.fn.second.contents) parts (woven (drop l.done l.steps.items) l.ones l.others);
   planned : ArePlanned g.S.K.Ord.cmp g.S.Argument.Argument.is_summary (g.S.NodeStore.slots l.plan.store) l.plan.ids.items l.plan.trees.items parts;
   empty : AllByRecursion IsEmptyLeaf l.rooms.items;
   as_many : length l.rooms.items ≡ length parts;

@@ -1,6 +1,5 @@
 use Rattle.std.proofs.Common.{◌≡◌, ◌∷◌, [], Some, ap, arith, length, subst, sym}
 use Rattle.bptree_bulk.proofs.Weaves.{goes_joined, step_shrinks}
-use Rattle.bptree_bulk.specs.Positions.{rest_of}
 use Rattle.bptree_bulk.specs.Weave.{next_source, Goes}
 use Rattle.bptree_bulk.proofs.weaving.steps_of.Goals as goal
 
@@ -10,15 +9,14 @@ steps-preserved g c =
     let source = c.in-Some.source in
     let first = c.args.first.now in
     let second = c.args.second.now in
-    let a = rest_of g.S.NodeStore.slots first c.steps.at.first in
-    let b = rest_of g.S.NodeStore.slots second c.steps.at.second in
-    let a' = rest_of g.S.NodeStore.slots first c.step_over-at.result.first in
-    let b' = rest_of g.S.NodeStore.slots second c.step_over-at.result.second in
+    let a = c.steps.ones in
+    let b = c.steps.others in
+    let a' = c.step_over.new.first in
+    let b' = c.step_over.new.second in
     let next : next_source cmp a b ≡ Some source = sym c.in-Some.ensures in
-    let step = c.step_over-at.ensures in
+    let step = c.step_over.ensures in
     let items = c.steps.steps.items in
     record {
-      at = step.at;
       goes = subst (λ l. Goes cmp l first.contents second.contents a' b') (sym c.push_reserved.ensures.items) (goes_joined cmp items (source ∷ []) first.contents second.contents a b a' b' c.steps.invariant.goes (next, (sym step.first, sym step.second)));
       room = omega (arith, c.steps.invariant.room, c.push_reserved.ensures.len, c.push_reserved.ensures.capacity, step_shrinks cmp source a b next, ap length step.first, ap length step.second);
     }

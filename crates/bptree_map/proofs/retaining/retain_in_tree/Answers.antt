@@ -1,7 +1,7 @@
 use Rattle.std.proofs.Common.{◌≡◌, ◌∙◌, refl, ap, arith, length, ◌∷◌, ◌++◌}
 use Rattle.bptree_keys.specs.Contents.{IsAscending}
 use Rattle.bptree_map.specs.Retaining.{IsRetained}
-use Rattle.bptree_map.proofs.RetainLemmas.{ascending_without, called_at, none_asked, pair_leaves, pair_stays, still_ascending}
+use Rattle.bptree_map.proofs.RetainLemmas.{ascending_without, called_at, in_both, none_asked, pair_leaves, pair_stays, still_ascending}
 use denote.Param.Always.{mut_next}
 use Rattle.bptree_map.proofs.retaining.retain_in_tree.Goals as goal
 
@@ -16,25 +16,22 @@ pairs-init g c =
       room = omega (arith, c.in-Ok-with_capacity.ensures.len, c.in-Ok-with_capacity.ensures.capacity, c.len.ensures.value, ap length same);
     }
 
-pub pairs-preserved-then-f : goal.pairs-preserved-then-f
-pairs-preserved-then-f g c =
-    let total = g.met.S.K.Ord.total in
-    let call = rw c.if-f.true at (called_at g.F.FnMut c.f.ensures) in
-    let ascending : IsAscending g.S.K.Ord.cmp (c.pairs.kept.items ++ (c.in-Some.k, c.in-Some.v) ∷ c.next.new.self) = rw c.in-Some.ensures.steps at c.pairs.invariant.ascending in
-    let stored = c.push_reserved.ensures.items in
-    record {
-      callable = mut_next g.F.FnMut _ _ _ _ _ c.f.ensures refl c.pairs.invariant.callable;
-      ascending = rw stored (still_ascending total _ (c.in-Some.k, c.in-Some.v) _ ascending c.f.new.arg3);
-      asked = rw stored (pair_stays g.F.FnMut _ _ _ _ _ c.pairs.invariant.asked _ _ c.in-Some.ensures.steps _ _ call);
-      room = omega (arith, c.pairs.invariant.room, c.push_reserved.ensures.len, c.push_reserved.ensures.capacity, ap length c.in-Some.ensures.steps);
-    }
-
 pub pairs-preserved : goal.pairs-preserved
 pairs-preserved g c =
-    let call = rw c.if-f.false at (called_at g.F.FnMut c.f.ensures) in
+    let total = g.met.S.K.Ord.total in
+    let pair : g.row.S-K.Denot × g.row.S-V.Denot = (c.in-Some.k, c.in-Some.v) in
+    let rest = c.next.new.self in
+    let kept = c.pairs.kept.items in
+    let stays = c.f-stays.result in
+    let call = called_at g.F.FnMut c.f-stays.ensures in
+    let ascending : IsAscending g.S.K.Ord.cmp (kept ++ pair ∷ rest) = rw c.in-Some.ensures.steps at c.pairs.invariant.ascending in
     record {
-      callable = mut_next g.F.FnMut _ _ _ _ _ c.f.ensures refl c.pairs.invariant.callable;
-      ascending = ascending_without g.met.S.K.Ord.total c.pairs.kept.items (c.in-Some.k, c.in-Some.v) c.next.new.self (rw c.in-Some.ensures.steps at c.pairs.invariant.ascending);
-      asked = pair_leaves g.F.FnMut _ _ _ _ _ c.pairs.invariant.asked _ _ c.in-Some.ensures.steps _ _ call;
-      room = omega (arith, c.pairs.invariant.room, ap length c.in-Some.ensures.steps);
+      callable = mut_next g.F.FnMut _ _ _ _ _ c.f-stays.ensures refl c.pairs.invariant.callable;
+      ascending = in_both stays
+          (λ t. rw (c.push_if.ensures.stays t) (still_ascending total kept pair rest ascending c.f-stays.new.arg3))
+          (λ f. rw (c.push_if.ensures.leaves f) (ascending_without total kept pair rest ascending));
+      asked = in_both stays
+          (λ t. rw (c.push_if.ensures.stays t) (pair_stays g.F.FnMut _ _ _ _ _ c.pairs.invariant.asked _ _ c.in-Some.ensures.steps _ _ (rw t at call)))
+          (λ f. rw (c.push_if.ensures.leaves f) (pair_leaves g.F.FnMut _ _ _ _ _ c.pairs.invariant.asked _ _ c.in-Some.ensures.steps _ _ (rw f at call)));
+      room = omega (arith, c.pairs.invariant.room, c.push_if.ensures.len, c.push_if.ensures.capacity, ap length c.in-Some.ensures.steps);
     }

@@ -1,10 +1,10 @@
-use Rattle.std.proofs.Common.{◌≡◌, ◌∙◌, refl, ap, arith, length, subst, sym, [], ◌∷◌, ◌++◌}
+use Rattle.std.proofs.Common.{◌≡◌, ◌∙◌, refl, ap, arith, false, length, subst, sym, true, [], ◌∷◌, ◌++◌}
 use Rattle.std.specs.Fn.{CalledAt}
 use Rattle.std.specs.List.Retain.{IsFiltered}
 use Rattle.std.specs.List.Sorted.{IsStrictlySortedBy}
 use Rattle.std.specs.Map.{keys_of}
 use Rattle.bptree_map.proofs.KeyLemmas.{keys_append}
-use Rattle.bptree_map.proofs.RetainLemmas.{all_asked, filters_none, filters_nothing, filters_one, keys_still_sorted, keys_without, none_asked, one_leaves, one_stays}
+use Rattle.bptree_map.proofs.RetainLemmas.{all_asked, filters_none, filters_nothing, filters_one, in_both, keys_still_sorted, keys_without, none_asked, one_leaves, one_stays}
 use denote.Param.Always.{mut_next}
 use Rattle.bptree_set.proofs.set.BPlusTreeSet.retain.Goals as goal
 
@@ -20,37 +20,27 @@ keys-init g c =
       capacity = c.in-Ok-with_capacity.ensures.exact ∙ c.len.ensures.value;
     }
 
-pub keys-preserved-then-f : goal.keys-preserved-then-f
-keys-preserved-then-f g c =
+pub keys-preserved : goal.keys-preserved
+keys-preserved g c =
     let at = c.keys.invariant in
     let total = g.met.K.Ord.total in
     let k = c.in-Some.k in
     let rest = c.next.new.self in
     let kept = keys_of c.keys.kept.items in
-    let call : CalledAt g.F.FnMut c.keys.f k c.f.result c.f.new.self = record { shown = _; shows = refl; called = c.f.ensures } in
+    let stays = c.f-stays.result in
+    let call : CalledAt g.F.FnMut c.keys.f k stays c.f-stays.new.self = record { shown = _; shows = refl; called = c.f-stays.ensures } in
     let sorted : IsStrictlySortedBy g.K.Ord.cmp (kept ++ k ∷ rest) = rw c.in-Some.ensures.steps at at.sorted in
-    let stored : keys_of c.push_reserved.new.self.items ≡ kept ++ k ∷ [] = ap keys_of c.push_reserved.ensures.items ∙ keys_append c.keys.kept.items ((k, tt) ∷ []) in
+    let asked = rw c.in-Some.ensures.steps at at.asked in
+    let kept_on : stays ≡ true → keys_of c.push_if.new.items.items ≡ kept ++ k ∷ [] = λ t. ap keys_of (c.push_if.ensures.stays t) ∙ keys_append c.keys.kept.items ((k, tt) ∷ []) in
+    let kept_as : stays ≡ false → keys_of c.push_if.new.items.items ≡ kept = λ f. ap keys_of (c.push_if.ensures.leaves f) in
     record {
-      callable = mut_next g.F.FnMut _ _ _ _ _ c.f.ensures refl at.callable;
-      sorted = rw stored (keys_still_sorted total kept k rest sorted);
-      asked = rw stored (one_stays (IsFiltered (CalledAt g.F.FnMut)) c.args.f c.args.self.now c.keys.f kept k rest (rw c.in-Some.ensures.steps at at.asked) c.f.new.self k (filters_one (CalledAt g.F.FnMut) c.keys.f k c.f.new.self (rw c.if-f.true at call)));
-      room = omega (arith, at.room, c.push_reserved.ensures.len, c.push_reserved.ensures.capacity, ap length c.in-Some.ensures.steps);
-      capacity = c.push_reserved.ensures.capacity ∙ at.capacity;
-    }
-
-pub keys-preserved : goal.keys-preserved
-keys-preserved g c =
-    let at = c.keys.invariant in
-    let k = c.in-Some.k in
-    let rest = c.next.new.self in
-    let kept = keys_of c.keys.kept.items in
-    let call : CalledAt g.F.FnMut c.keys.f k c.f.result c.f.new.self = record { shown = _; shows = refl; called = c.f.ensures } in
-    record {
-      callable = mut_next g.F.FnMut _ _ _ _ _ c.f.ensures refl at.callable;
-      sorted = keys_without g.met.K.Ord.total kept k rest (rw c.in-Some.ensures.steps at at.sorted);
-      asked = one_leaves (IsFiltered (CalledAt g.F.FnMut)) c.args.f c.args.self.now c.keys.f kept k rest (rw c.in-Some.ensures.steps at at.asked) c.f.new.self (filters_none (CalledAt g.F.FnMut) c.keys.f k c.f.new.self (rw c.if-f.false at call));
-      room = omega (arith, at.room, ap length c.in-Some.ensures.steps);
-      capacity = at.capacity;
+      callable = mut_next g.F.FnMut _ _ _ _ _ c.f-stays.ensures refl at.callable;
+      sorted = in_both stays (λ t. rw (kept_on t) (keys_still_sorted total kept k rest sorted)) (λ f. rw (kept_as f) (keys_without total kept k rest sorted));
+      asked = in_both stays
+          (λ t. rw (kept_on t) (one_stays (IsFiltered (CalledAt g.F.FnMut)) c.args.f c.args.self.now c.keys.f kept k rest asked c.f-stays.new.self k (filters_one (CalledAt g.F.FnMut) c.keys.f k c.f-stays.new.self (rw t at call))))
+          (λ f. rw (kept_as f) (one_leaves (IsFiltered (CalledAt g.F.FnMut)) c.args.f c.args.self.now c.keys.f kept k rest asked c.f-stays.new.self (filters_none (CalledAt g.F.FnMut) c.keys.f k c.f-stays.new.self (rw f at call))));
+      room = omega (arith, at.room, c.push_if.ensures.len, c.push_if.ensures.capacity, ap length c.in-Some.ensures.steps);
+      capacity = c.push_if.ensures.capacity ∙ at.capacity;
     }
 
 pub returns-in-Ok-from_ascending-clause-ok : goal.returns-in-Ok-from_ascending-clause-ok

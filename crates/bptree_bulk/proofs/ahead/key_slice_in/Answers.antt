@@ -5,18 +5,17 @@ use Rattle.bptree_bulk.proofs.Tails.{from_index}
 use Rattle.bptree_bulk.proofs.Weaves.{keys_here}
 use Rattle.bptree_invariant.specs.Leaves.{pairs_of}
 use Rattle.bptree_invariant.specs.Shape.{leaf_pairs, pairs_at}
-use Rattle.bptree_bulk.proofs.weaving.key_slice.Goals as goal
+use Rattle.bptree_bulk.proofs.ahead.key_slice_in.Goals as goal
 
 pub returns : goal.returns
 returns g c =
     let tree = c.args.tree.now in
     let slots = g.S.NodeStore.slots tree.store in
-    let same : c.tree.inside.store ≡ tree.store = ap (λ t. t.store) c.tree.view_is in
     let at = c.args.at in
-    let node = c.get_leaf-leaf.result.now in
+    let node = c.args.leaf.now in
     let stored = c.requires.at.on.stored in
     let rest = pairs_of slots stored.after in
-    let leaf : leaf_pairs (slots.leaf at.leaf.0) ≡ node.pairs = ap leaf_pairs (rw same at c.get_leaf-leaf.ensures) in
+    let leaf : leaf_pairs (slots.leaf at.leaf.0) ≡ node.pairs = ap leaf_pairs c.requires.leaf in
     let here : rest_of g.S.NodeStore.slots tree at ≡ drop at.slot (node.pairs ++ rest) =
     ap (drop (index_of_position g.S.NodeStore.slots tree at)) c.recall.ensures.whole.contents ∙ (from_index g.S.Argument.Argument.is_summary slots tree.height tree.root c.recall.ensures.whole.shape at.leaf stored at.slot ∙ ap (λ l. drop at.slot (l ++ rest)) leaf) in
     let some : index_of_position g.S.NodeStore.slots tree at < length (pairs_at slots tree.height tree.root) = omega (arith, c.requires.some, ap length c.recall.ensures.whole.contents) in
