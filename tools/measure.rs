@@ -215,22 +215,29 @@ fn batches(keys: &[u64], others: &[u64]) {
         sum = sum.wrapping_add(map.contains_key(key) as u64);
     }
     tell("map", "containsmany", start, others.len(), sum);
-    let new: Vec<u64> = others
+    let mut new: Vec<u64> = others
         .iter()
         .take(keys.len() / 100)
         .map(|key| *key & (u64::MAX - 1))
         .collect();
+    insert_all(&mut map, &new, ["insertmany", "removemany"]);
+    new.sort();
+    insert_all(&mut map, &new, ["insertsorted", "removesorted"]);
+}
+
+// Inserts new keys one by one, and removes them. The names are those of the two calls.
+fn insert_all(map: &mut BTreeMap<u64, u64>, new: &[u64], names: [&str; 2]) {
     let start = Instant::now();
-    for key in &new {
+    for key in new {
         map.insert(*key, *key);
     }
-    tell("map", "insertmany", start, new.len(), map.len() as u64);
+    tell("map", names[0], start, new.len(), map.len() as u64);
     let start = Instant::now();
     let mut sum = 0u64;
-    for key in &new {
+    for key in new {
         sum += map.remove(key).is_some() as u64;
     }
-    tell("map", "removemany", start, new.len(), sum);
+    tell("map", names[1], start, new.len(), sum);
 }
 
 // Look-ups of keys of two parts, in groups of 500.

@@ -12,6 +12,7 @@ pub mod Removals
 pub mod Segments
 pub mod SidePlans
 pub mod Sides
+pub mod Skips
 pub mod Summed
 pub mod Tails
 pub mod Weaves

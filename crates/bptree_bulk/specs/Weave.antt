@@ -1,5 +1,5 @@
 -- Two lists of pairs that become one, step by step.
-use Rattle.std.specs.Prelude.{◌≡◌, Option, Some, None, List, [], ◌∷◌, ◌++◌, length, take, drop}
+use Rattle.std.specs.Prelude.{◌≡◌, ℕ, ◌+◌, Option, Some, None, List, [], ◌∷◌, ◌++◌, length, take, drop}
 use Rattle.std.specs.declared.cmp.Ordering.{Ordering}
 use Rattle.std.specs.declared.vec.Vec.{Vec}
 use Rattle.std.specs.declared.cmp.Ordering.TheVariants.{Less, Equal, Greater}
@@ -22,6 +22,25 @@ put_pair cmp l pair = put cmp l pair.0 pair.1
 abbrev pub put_all : {X : Type 0} → (List X → X → List X) → List X → List X → List X
 put_all put_one l [] = l
 put_all put_one l (x ∷ xs) = put_all put_one (put_one l x) xs
+
+-- how many pairs of the first list the steps take (`first_count`), and of the second (`second_count`)
+abbrev pub takes_first : Source → ℕ
+takes_first First = 1
+takes_first Second = 0
+takes_first Both = 1
+
+abbrev pub takes_second : Source → ℕ
+takes_second First = 0
+takes_second Second = 1
+takes_second Both = 1
+
+abbrev pub first_count : List Source → ℕ
+first_count [] = 0
+first_count (s ∷ steps) = takes_first s + first_count steps
+
+abbrev pub second_count : List Source → ℕ
+second_count [] = 0
+second_count (s ∷ steps) = takes_second s + second_count steps
 
 -- the source of the next pair, by the order of both next keys
 abbrev pub source_by : Ordering → Source

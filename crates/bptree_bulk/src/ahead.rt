@@ -1,5 +1,5 @@
 //! The pairs of a tree from one pair on, for a merge.
-ghost use Rattle.std.specs.Prelude.{◌≡◌, ◌<◌, drop, length, take};
+ghost use Rattle.std.specs.Prelude.{◌≡◌, ◌+◌, ◌<◌, ◌≤◌, drop, length, take};
 ghost use Rattle.std.specs.Map.{keys_of};
 ghost use Rattle.std.specs.Option.{option_copied};
 ghost use Rattle.bptree_bulk.specs.Cut.{first_key};
@@ -96,6 +96,36 @@ fn after<'a, S: NodeStore>(
     (next, tree.store.get_leaf(next.leaf))
 }
 
+// The position `most` pairs behind a position, or the start of the next leaf if that comes first;
+// its leaf; and how many pairs behind it is.
+fn behind<'a, S: NodeStore>(
+    tree: &'a Nodes<S>,
+    leaf: &'a LeafNode<S::K, S::V>,
+    at: Position,
+    most: usize,
+) -> (Position, &'a LeafNode<S::K, S::V>, usize)
+    requires at { IsAtPair S.slots tree.now at }
+    requires leaf { IsLeafOfPosition S.slots tree.now at leaf.now }
+    requires some { 0 < most }
+    requires within { index_of_position S.slots tree.now at + most ≤ length tree.now.contents }
+    ensures at { IsAtPair S.slots tree.now result.0 }
+    ensures leaf { IsLeafOfPosition S.slots tree.now result.0 result.1.now }
+    ensures some { (0 < result.2) × (result.2 ≤ most) }
+    ensures rest { rest_of S.slots tree.now result.0 ≡ drop result.2 (rest_of S.slots tree.now at) }
+{
+    tree.recall();
+    let count = most.min(leaf.len() - at.slot);
+    let next = Position {
+        leaf: at.leaf,
+        slot: at.slot + count,
+    };
+    if next.slot < leaf.len() {
+        return (next, leaf, count);
+    }
+    let start = settled(tree, next);
+    (start, tree.store.get_leaf(start.leaf), count)
+}
+
 impl<'a, S: NodeStore> Ahead<'a, S> {
     /// All pairs of a tree.
     ///
@@ -141,5 +171,32 @@ impl<'a, S: NodeStore> Ahead<'a, S> {
         let (at, leaf) = after(self.tree, self.leaf, self.at);
         self.at = at;
         self.leaf = leaf;
+    }
+
+    // Leaves out the first `most` of the pairs, or those of the first leaf if they are fewer.
+    // Returns how many.
+    fn skip_some(&mut self, most: usize) -> usize
+        requires some { 0 < most }
+        requires within { most ≤ length self.old }
+        ensures some { (0 < result) × (result ≤ most) }
+        ensures rest { self.new ≡ drop result self.old }
+    {
+        let (at, leaf, count) = behind(self.tree, self.leaf, self.at, most);
+        self.at = at;
+        self.leaf = leaf;
+        count
+    }
+
+    /// Leaves out the first `count` of the pairs.
+    ///
+    /// O(1) for each leaf that is left behind. It allocates nothing and cannot fail.
+    pub(crate) fn skip(&mut self, count: usize)
+        requires { count ≤ length self.old }
+        ensures { self.new ≡ drop count self.old }
+    {
+        let mut left = count;
+        'leaves: while left > 0 {
+            left -= self.skip_some(left);
+        }
     }
 }

@@ -1,8 +1,8 @@
 //! Two trees whose pairs are merged into one tree.
-ghost use Rattle.std.specs.Prelude.{◌≡◌, ◌+◌, ◌<◌, ◌≤◌, ◌^◌, ◌∷◌, [], length, vec_capacity, IfOk, OnOk, Some};
+ghost use Rattle.std.specs.Prelude.{◌≡◌, ◌+◌, ◌<◌, ◌≤◌, ◌^◌, ◌∷◌, [], length, vec_capacity, IfOk, List, OnOk, Some};
 ghost use Rattle.std.specs.Map.{keys_of};
 ghost use Rattle.bptree_bulk_load.specs.Plans.{AddsParts};
-ghost use Rattle.bptree_bulk.specs.Weave.{first_rest, next_source, second_rest, source_by, step_pair, woven, Goes, IsWeave, WeaveLeadsOn, WeavesAll};
+ghost use Rattle.bptree_bulk.specs.Weave.{first_rest, first_count, next_source, second_rest, second_count, source_by, step_pair, takes_first, takes_second, woven, Goes, IsWeave, WeaveLeadsOn, WeavesAll};
 ghost use Rattle.bptree_keys.specs.Contents.{IsAscending};
 
 use crate::ahead::Ahead;
@@ -110,6 +110,67 @@ fn steps_of<S: NodeStore>(first: &Nodes<S>, second: &Nodes<S>) -> Result<Vec<Sou
     Ok(steps)
 }
 
+// How many pairs of the first tree a step takes.
+#[inline(always)]
+fn takes_first(source: Source) -> usize
+    ensures value { result ≡ takes_first source }
+    ensures most { result ≤ 1 }
+{
+    match source {
+        Source::Second => 0,
+        _ => 1,
+    }
+}
+
+// How many pairs of the second tree a step takes.
+#[inline(always)]
+fn takes_second(source: Source) -> usize
+    ensures value { result ≡ takes_second source }
+    ensures most { result ≤ 1 }
+{
+    match source {
+        Source::First => 0,
+        _ => 1,
+    }
+}
+
+// How many pairs of the first tree the steps take, and of the second.
+fn takes_of(steps: &[Source]) -> (usize, usize)
+    ensures first { result.0 ≡ first_count steps.now }
+    ensures second { result.1 ≡ second_count steps.now }
+{
+    let mut ones = 0usize;
+    let mut others = 0usize;
+    let mut i = 0;
+    'steps: while i < steps.len() {
+        ones += takes_first(steps[i]);
+        others += takes_second(steps[i]);
+        i += 1;
+    }
+    (ones, others)
+}
+
+// Does what `plan_steps` does, if every value is a summary of every list. It only counts the steps.
+fn plan_counted<S: NodeStore>(
+    plan: &mut Plan<S>,
+    first: &mut Ahead<'_, S>,
+    second: &mut Ahead<'_, S>,
+    steps: &[Source],
+) -> Result<(), AllocError>
+    requires lead { WeaveLeadsOn S.K.cmp steps.now first.old second.old }
+    requires count { (0 < length steps.now) × (length steps.now ≤ 64) }
+    requires any { (a : S.Argument) → (keys : List S.K) → S.Argument.is_summary a keys }
+    ensures leads { OnOk result (Goes S.K.cmp steps.now first.old second.old first.new second.new) }
+    ensures planned { OnOk result (AddsParts S.K.cmp S.Argument.is_summary S.slots plan.old plan.new (woven steps.now first.old second.old ∷ [])) }
+{
+    let start = next_key(first, second, steps[0])[0].clone()?;
+    let (ones, others) = takes_of(steps);
+    first.skip(ones);
+    second.skip(others);
+    plan_part(plan, start, S::Argument::default())?;
+    Ok(())
+}
+
 // Plans a leaf behind others, for the pairs of some steps, and leaves them out. `sums` is scratch
 // space with room for a summary of each step; its contents are overwritten.
 fn plan_steps<S: NodeStore>(
@@ -127,6 +188,9 @@ fn plan_steps<S: NodeStore>(
     ensures leads { OnOk result (Goes S.K.cmp steps.now first.old second.old first.new second.new) }
     ensures planned { OnOk result (AddsParts S.K.cmp S.Argument.is_summary S.slots plan.old plan.new (woven steps.now first.old second.old ∷ [])) }
 {
+    if S::Argument::is_zst() {
+        return plan_counted(plan, first, second, steps);
+    }
     sums.clear();
     let start = next_key(first, second, steps[0])[0].clone()?;
     let mut i = 0;

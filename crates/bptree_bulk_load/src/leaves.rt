@@ -12,12 +12,13 @@ use std::alloc::AllocError;
 
 /// Returns the ids of the leaves of a tree, in the order of their keys.
 ///
-/// O(n / 32) for n pairs. It allocates the room for the ids, and fails if that allocation does.
+/// O(n / 32) for n pairs. It allocates the room for the ids, once if leaves have 32 pairs or more on
+/// average. It fails if an allocation fails.
 pub fn leaf_ids<S: NodeStore>(tree: &Nodes<S>) -> Result<Vec<LeafNodeId>, AllocError>
     ensures { IfOk result (λ ids. ids.items ≡ leaves_at (S.slots tree.now.store) tree.now.height tree.now.root) }
 {
     tree.recall();
-    let mut ids = Vec::new(tree.store.allocator());
+    let mut ids = Vec::with_capacity(tree.store.allocator(), tree.len() / 32 + 1)?;
     let mut at = Some(tree.first_leaf());
     'leaves: while let Some(id) = at {
         ids.push(id)?;

@@ -77,7 +77,8 @@ pub fn plan_leaf<S: NodeStore>(
 
 /// Plans leaves after the others, for the pairs of leaves of another store, in the order of `ids`.
 ///
-/// It costs what `plan_leaf` does for each, and fails if that does.
+/// It allocates the room for all leaves first. Then it costs what `plan_leaf` does for each, and
+/// fails if that does.
 pub fn plan_leaves<S: NodeStore>(
     plan: &mut Plan<S>,
     store: &S,
@@ -86,6 +87,8 @@ pub fn plan_leaves<S: NodeStore>(
     requires { AllByRecursion (IsFilledAt S.K.cmp (S.slots store.now)) ids.now }
     ensures { OnOk result (AddsParts S.K.cmp S.Argument.is_summary S.slots plan.old plan.new (map (pairs_under (S.slots store.now)) ids.now)) }
 {
+    plan.ids.reserve(ids.len())?;
+    plan.trees.reserve(ids.len())?;
     let mut i = 0;
     'ids: while i < ids.len() {
         let id = ids[i];

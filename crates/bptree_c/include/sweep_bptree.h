@@ -11,8 +11,8 @@
 #include <stddef.h>
 #include <stdint.h>
 
-#define SWEEP_BPTREE_VERSION "0.10.1"
-#define SWEEP_BPTREE_VERSION_NUMBER 10001
+#define SWEEP_BPTREE_VERSION "0.10.2"
+#define SWEEP_BPTREE_VERSION_NUMBER 10002
 
 #ifdef __cplusplus
 extern "C" {

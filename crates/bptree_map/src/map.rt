@@ -348,8 +348,8 @@ impl<K: Key, V: Drop, A: Argument<K>> BPlusTreeMap<K, V, A> {
 
     /// Removes the pair with the least key, and returns it, or `None` if the map is empty.
     ///
-    /// O(log n): one descent, which compares no key. It fails only if a clone of a key or a summary
-    /// fails; then the map is unchanged. If the map is empty, it cannot fail.
+    /// O(log n): at most one descent, which compares no key. It fails only if a clone of a key or a
+    /// summary fails; then the map is unchanged. If the map is empty, it cannot fail.
     pub fn pop_first(&mut self) -> Result<Option<(K, V)>, AllocError>
         ensures ok { IfOk result (IsPopped K.cmp self.old self.new) }
         ensures stored { IfOk result (PopsFirst self.old self.new) }
@@ -362,8 +362,8 @@ impl<K: Key, V: Drop, A: Argument<K>> BPlusTreeMap<K, V, A> {
 
     /// Removes the pair with the greatest key, and returns it, or `None` if the map is empty.
     ///
-    /// O(log n): one descent, which compares no key. It fails only if a clone of a key or a summary
-    /// fails; then the map is unchanged. If the map is empty, it cannot fail.
+    /// O(log n): at most one descent, which compares no key. It fails only if a clone of a key or a
+    /// summary fails; then the map is unchanged. If the map is empty, it cannot fail.
     pub fn pop_last(&mut self) -> Result<Option<(K, V)>, AllocError>
         ensures stored { IfOk result (PopsLast self.old self.new) }
         ensures empty { self.old ≡ [] → result ≡ Ok None }

@@ -1,6 +1,7 @@
 -- The operations that undo an insertion.
-use Rattle.std.proofs.Common.{◌≡◌, ℕ, ◌+◌, ◌-◌, ◌<◌, ◌≤◌, zero, suc, List, [], ◌∷◌, ◌++◌, length, refl, sym, ap, ◌∙◌, arith, Some}
+use Rattle.std.proofs.Common.{◌≡◌, ℕ, ◌+◌, ◌-◌, ◌<◌, ◌≤◌, zero, suc, List, [], ◌∷◌, ◌++◌, length, take, drop, refl, sym, ap, ◌∙◌, arith, Some}
 use Rattle.std.specs.List.{insert, remove, slice_get}
+use Rattle.std.proofs.lemmas.List.{take_at, drop_at}
 use Rattle.std.proofs.lemmas.List.Edits.{remove-append_left, remove-append_right}
 use Rattle.bptree_keys.specs.declared.node_id.NodeId.{NodeId}
 use Rattle.bptree_nodes.specs.Inner.{Inner, TakesEntry, merged_inner, without_entry}
@@ -21,6 +22,13 @@ module _ {X : Type 0} where
   -- if an insertion made the list `whole`, a removal at its index leaves the list before, and returns the inserted element
   pub taken_back : (was whole left : List X) (i : ℕ) (x y : X) → whole ≡ insert was i x → i ≤ length was → slice_get whole i ≡ Some y → left ≡ remove whole i → (left ≡ was) × (y ≡ x)
   taken_back was whole left i x y made h got e = delete_inserted was left i x y h (ap (λ zs. slice_get zs i) (sym made) ∙ got) (e ∙ ap (λ zs. remove zs i) made)
+
+  -- two equal concatenations whose first parts have the same length have equal parts
+  pub split_same : (xs ys zs ws : List X) → xs ++ ys ≡ zs ++ ws → length xs ≡ length zs → (xs ≡ zs) × (ys ≡ ws)
+  split_same xs ys zs ws same long = (
+    sym (take_at xs ys (length xs) refl) ∙ (ap (take (length xs)) same ∙ take_at zs ws (length xs) (sym long)),
+    sym (drop_at xs ys (length xs) refl) ∙ (ap (drop (length xs)) same ∙ drop_at zs ws (length xs) (sym long)),
+  )
 
   -- an element of a concatenation is one of its two lists
   pub slice_get-append_left : (xs ys : List X) (i : ℕ) → i < length xs → slice_get (xs ++ ys) i ≡ slice_get xs i

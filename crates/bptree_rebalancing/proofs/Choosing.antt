@@ -16,7 +16,7 @@ use Rattle.bptree_propagation.specs.Climb.{least_at}
 use Rattle.bptree_rebalancing.specs.ChooseSibling.{ChoosesSibling, HasOneChildMore, NodesBelow, node_size, child_size, size_below, IsInnerAt, IsLeafAt, IsNodeAt}
 use Rattle.bptree_invariant.specs.Order.{total, Chain}
 use Rattle.bptree_invariant.specs.Path.{Way}
-use Rattle.bptree_rebalancing.specs.Transfer.{CanGive, Moves}
+use Rattle.bptree_rebalancing.specs.Transfer.{CanGive, CanGiveMany, CanSpare, Moves, MovesMany}
 use Rattle.bptree_rebalancing.specs.declared.rotate_merge.Sibling.{Sibling}
 use Rattle.bptree_rebalancing.specs.declared.rotate_merge.Sibling.TheVariants.{Left, Right}
 
@@ -132,11 +132,29 @@ module _ (size : ℕ → ℕ) (i slot a b : ℕ) (left : size slot ≡ a) (right
   enough_so Left x y a_least b_least chosen moves = (omega (arith, chosen.1, moves.0), omega (arith, moves.1))
   enough_so Right x y a_least b_least chosen moves = (omega (arith, moves.0), omega (arith, chosen.1, moves.1))
 
+  -- the giver has more than 16, so it can spare one
+  pub spares_one : (giver : Sibling) → ChoosesSibling size i slot (Some giver) → CanSpare giver 1 a b
+  spares_one Left chosen = (omega arith, omega (arith, chosen.1))
+  spares_one Right chosen = (omega arith, omega (arith, chosen.1))
+
+  pub gives_so : (giver : Sibling) (n : ℕ) → a ≤ 64 → b ≤ 64 → ChoosesSibling size i slot (Some giver) → CanSpare giver n a b → CanGiveMany giver n a b
+  gives_so Left n a_most b_most chosen spares = (omega (arith, spares.1), a_most, omega (arith, spares.1, short_right chosen.0))
+  gives_so Right n a_most b_most chosen spares = (omega (arith, spares.1), b_most, omega (arith, spares.1, short_left chosen.0))
+
   -- if neither gives, the two fit into one
   pub fits_so : ChoosesSibling size i slot None → a + b < 64
   fits_so chosen = elim chosen [ inl h ↦ omega (arith, h.1, short_right h.0) | inr h ↦ omega (arith, h.2, short_left h.0) ]
 
--- after a rotation neither has more than fit
+-- after a rotation of leaves both have enough, and neither has more than fit
+pub enough_many : (giver : Sibling) (n a b x y : ℕ) → 15 ≤ a → 15 ≤ b → CanSpare giver n a b → MovesMany giver n a b x y → (16 ≤ x) × (16 ≤ y)
+enough_many Left n a b x y a_least b_least spares moves = (omega (arith, spares.1, moves.0), omega (arith, spares.0, moves.1))
+enough_many Right n a b x y a_least b_least spares moves = (omega (arith, spares.0, moves.0), omega (arith, spares.1, moves.1))
+
+pub most_many : (giver : Sibling) (n a b x y : ℕ) → CanGiveMany giver n a b → MovesMany giver n a b x y → (x ≤ 64) × (y ≤ 64)
+most_many Left n a b x y can moves = (omega (arith, can.1, moves.0), omega (arith, can.2, moves.1))
+most_many Right n a b x y can moves = (omega (arith, can.2, moves.0), omega (arith, can.1, moves.1))
+
+-- after a rotation of inner nodes neither has more than fit
 pub most_so : (giver : Sibling) (a b x y : ℕ) → CanGive giver a b → Moves giver a b x y → (x ≤ 64) × (y ≤ 64)
 most_so Left a b x y can moves = (omega (arith, can.1, moves.0), omega (arith, can.2, moves.1))
 most_so Right a b x y can moves = (omega (arith, can.2, moves.0), omega (arith, can.1, moves.1))

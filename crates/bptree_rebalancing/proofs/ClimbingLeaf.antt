@@ -24,7 +24,7 @@ use Rattle.bptree_rebalancing.specs.Rebalance.{RebalancesPair}
 use Rattle.bptree_invariant.specs.Order.{flat}
 use Rattle.bptree_invariant.specs.Outcome.{Done, Split}
 use Rattle.bptree_invariant.specs.Shape.{inner_children, leaf_pairs, leaf_prev, leaf_next, pairs_at, leaves_at, leaf_count, inner_count, stored, root_least, AreLinked, IsTree}
-use Rattle.bptree_rebalancing.specs.Transfer.{HasEntry}
+use Rattle.bptree_rebalancing.specs.Transfer.{CanSpare, HasEntry}
 use Rattle.bptree_rebalancing.specs.RotateMerge.{RotatesLeavesAt, MergesLeavesAt}
 use Rattle.bptree_propagation.specs.Sums.{SumsUpAt, with_split}
 use Rattle.bptree_rebalancing.specs.Trim.{UnderflowBelow, PropagatedUnderflow, LeafUnderflow, PropagatedToRoot}
@@ -33,7 +33,7 @@ use Rattle.bptree_rebalancing.specs.declared.rotate_merge.Sibling.{Sibling}
 use Rattle.bptree_invariant.proofs.Agreeing.{stored_le}
 use Rattle.bptree_propagation.proofs.Climbing.{climb_on, reported_up, least_most, none_are_held, not_held, held_is}
 use Rattle.bptree_invariant.proofs.Frame.{Same, same}
-use Rattle.bptree_rebalancing.proofs.Choosing.{inserted_is, before_is, most_so}
+use Rattle.bptree_rebalancing.proofs.Choosing.{inserted_is, before_is, most_many}
 use Rattle.bptree_invariant.proofs.Hinted.{count_of, count_leaves, first_or, linked_next}
 use Rattle.bptree_rebalancing.proofs.LeafSpot as spot
 use Rattle.bptree_propagation.proofs.Relinked.{reads_same, relinked_pairs, relinked_inner, relinked_held, one_at, other_leaf, linked_closed}
@@ -287,8 +287,8 @@ module _ {K V A : Type 0} {cmp : K → K → Ordering} (total' : IsTotalOrder cm
               reported = subst (λ l. is_summary top (keys_of l)) (sym (relinked.pairs ∙ freed.pairs)) sunk.reported;
             }
 
-    -- one leaf rotated a pair to the other
-    module _ (giver : Sibling) (l : RotatesLeavesAt cmp is_summary slot now after number giver left right joint) (least : (16 ≤ length l.three.one'.pairs) × (16 ≤ length l.other'.pairs)) where
+    -- one leaf rotated pairs to the other
+    module _ (giver : Sibling) (count : ℕ) (l : RotatesLeavesAt cmp is_summary slot now after number giver count left right joint) (least : (16 ≤ length l.three.one'.pairs) × (16 ≤ length l.other'.pairs)) where
       abbrev up : K
       up = l.transfers.rotates.separator
 
@@ -298,8 +298,8 @@ module _ {K V A : Type 0} {cmp : K → K → Ordering} (total' : IsTotalOrder cm
       left_rebalances : RebalancesPair cmp is_summary now after c.climb.height number.0 (get_or l.transfers.bare.children slot c.climb.id) joint.separator (kind.Leaf right) (Split up (kind.Leaf right))
       left_rebalances =
           from_low l.transfers.bare l.transfers.child le (λ m x. RebalancesPair cmp is_summary now after m number.0 x joint.separator (kind.Leaf right) (Split up (kind.Leaf right)))
-          (leaf_step.leaves_rotated total' is_summary now after number.0 left right l.three.one l.three.other l.three.one' joint.separator l.three.at_left l.three.at_right l.three.is_left l.inners l.leaves l.three.apart giver l.other' up l.three.is_right l.transfers.moves l.transfers.rotates.separates least
-          (most_so giver (length l.three.one.pairs) (length l.three.other.pairs) (length l.three.one'.pairs) (length l.other'.pairs) l.can l.transfers.moves.sizes))
+          (leaf_step.leaves_rotated total' is_summary now after number.0 left right l.three.one l.three.other l.three.one' joint.separator l.three.at_left l.three.at_right l.three.is_left l.inners l.leaves l.three.apart giver count l.other' up l.three.is_right l.transfers.moves l.transfers.rotates.separates least
+          (most_many giver count (length l.three.one.pairs) (length l.three.other.pairs) (length l.three.one'.pairs) (length l.other'.pairs) l.can l.transfers.moves.sizes))
 
       sums_leaf : (x : LeafNodeId) (node' : Leaf K V) (lo hi : Option K) (b : A) → after.leaf x.0 ≡ Present node' → IsTree cmp after 16 0 (kind.Leaf x) lo hi → SumsUpLeaf cmp is_summary node'.pairs b → is_summary b (keys_of (pairs_at after 0 (kind.Leaf x)))
       sums_leaf x node' lo hi b is t sums =
@@ -414,15 +414,15 @@ module _ {K V A : Type 0} {cmp : K → K → Ordering} (total' : IsTotalOrder cm
         pub merged_trims : (final : Slots (Inner K A) (Leaf K V)) → RelinksNext mid final next left → PropagatedToRoot c.climb final top
         merged_trims final rebalances = trims_merged total' is_summary now after path number i c slot left right beside_so left_so right_so joint emptied j above sums new top sunk mid frees next seen final rebalances
 
-  -- one leaf rotated a pair to the other
-  module _ {after : Slots (Inner K A) (Leaf K V)} (joint : ParentEntry K A) (giver : Sibling) (same : choose_sibling ≡ Some giver) (l : RotatesLeavesAt cmp is_summary slot now after number giver left right joint) (above : A) (sums : SumsUpAt cmp is_summary (after.inner number.0) above) where
+  -- one leaf rotated pairs to the other
+  module _ {after : Slots (Inner K A) (Leaf K V)} (joint : ParentEntry K A) (giver : Sibling) (count : ℕ) (spares : CanSpare giver count (length (leaf_pairs (now.leaf left.0))) (length (leaf_pairs (now.leaf right.0)))) (l : RotatesLeavesAt cmp is_summary slot now after number giver count left right joint) (above : A) (sums : SumsUpAt cmp is_summary (after.inner number.0) above) where
     pub least_so : (16 ≤ length l.three.one'.pairs) × (16 ≤ length l.other'.pairs)
     least_so =
-        spot.enough_there total' c slot left right read_left read_right giver (length l.three.one'.pairs) (length l.other'.pairs) (subst (λ x. ChoosesSibling (child_size now (inner_children (now.inner number.0))) i slot x) same chosen)
+        spot.enough_there total' c slot left right read_left read_right giver count (length l.three.one'.pairs) (length l.other'.pairs) spares
         (rw (l.three.at_left, l.three.at_right) l.transfers.moves.sizes)
 
     abbrev pub rotated : EditBelow cmp is_summary after path above
-    rotated = rotated_climbs total' is_summary now after path number i c slot left right beside_so left_so right_so joint giver l least_so above sums
+    rotated = rotated_climbs total' is_summary now after path number i c slot left right beside_so left_so right_so joint giver count l least_so above sums
 
     pub rotated_trims : (new : Slots (Inner K A) (Leaf K V)) (top : A) → Propagated rotated.climb new top → PropagatedToRoot c.climb new top
-    rotated_trims new top r = trims_rotated total' is_summary now after path number i c slot left right beside_so left_so right_so joint giver l least_so above sums new top r
+    rotated_trims new top r = trims_rotated total' is_summary now after path number i c slot left right beside_so left_so right_so joint giver count l least_so above sums new top r

@@ -21,7 +21,7 @@ use Rattle.bptree_invariant.specs.Order.{flat, Chain}
 use Rattle.bptree_invariant.specs.Outcome.{Done}
 use Rattle.bptree_invariant.specs.Path.{Way}
 use Rattle.bptree_invariant.specs.Shape.{leaf_pairs, leaf_next, inner_keys, inner_children, pairs_at, leaves_at, leaf_count, stored, AreLinked, IsSummed, IsTree}
-use Rattle.bptree_rebalancing.specs.Transfer.{CanGive, Moves}
+use Rattle.bptree_rebalancing.specs.Transfer.{CanGiveMany, CanSpare, MovesMany}
 use Rattle.bptree_propagation.specs.Sums.{HasChildAt, IndexAt}
 use Rattle.bptree_rebalancing.specs.Trim.{LeafUnderflow}
 use Rattle.bptree_rebalancing.specs.declared.rotate_merge.Sibling.{Sibling}
@@ -191,11 +191,15 @@ module _ {K V A : Type 0} {cmp : K → K → Ordering} (total' : IsTotalOrder cm
     right_size : child_size now node.children (suc slot) ≡ length (leaf_pairs (now.leaf right.0))
     right_size = ap (child_size now node.children) (omega arith) ∙ size_at (slot + 1) right read_right
 
-    pub rotates_here : (giver : Sibling) → ChoosesSibling (child_size now node.children) i slot (Some giver) → CanGive giver (length (leaf_pairs (now.leaf left.0))) (length (leaf_pairs (now.leaf right.0)))
-    rotates_here giver chosen = choosing.rotates_so (child_size now node.children) i slot _ _ left_size right_size size_here giver (full_at slot left read_left).2 (full_at (slot + 1) right read_right).2 chosen
+    pub spares_here : (giver : Sibling) → ChoosesSibling (child_size now node.children) i slot (Some giver) → CanSpare giver 1 (length (leaf_pairs (now.leaf left.0))) (length (leaf_pairs (now.leaf right.0)))
+    spares_here giver chosen = choosing.spares_one (child_size now node.children) i slot _ _ left_size right_size size_here giver chosen
 
-    pub enough_then : (giver : Sibling) (x y : ℕ) → ChoosesSibling (child_size now node.children) i slot (Some giver) → Moves giver (length (leaf_pairs (now.leaf left.0))) (length (leaf_pairs (now.leaf right.0))) x y → (16 ≤ x) × (16 ≤ y)
-    enough_then giver x y chosen moves = choosing.enough_so (child_size now node.children) i slot _ _ left_size right_size size_here giver x y (full_at slot left read_left).1 (full_at (slot + 1) right read_right).1 chosen moves
+    pub rotates_here : (giver : Sibling) (n : ℕ) → ChoosesSibling (child_size now node.children) i slot (Some giver) → CanSpare giver n (length (leaf_pairs (now.leaf left.0))) (length (leaf_pairs (now.leaf right.0)))
+        → CanGiveMany giver n (length (leaf_pairs (now.leaf left.0))) (length (leaf_pairs (now.leaf right.0)))
+    rotates_here giver n chosen spares = choosing.gives_so (child_size now node.children) i slot _ _ left_size right_size size_here giver n (full_at slot left read_left).2 (full_at (slot + 1) right read_right).2 chosen spares
+
+    pub enough_then : (giver : Sibling) (n x y : ℕ) → CanSpare giver n (length (leaf_pairs (now.leaf left.0))) (length (leaf_pairs (now.leaf right.0))) → MovesMany giver n (length (leaf_pairs (now.leaf left.0))) (length (leaf_pairs (now.leaf right.0))) x y → (16 ≤ x) × (16 ≤ y)
+    enough_then giver n x y spares moves = choosing.enough_many giver n _ _ x y (full_at slot left read_left).1 (full_at (slot + 1) right read_right).1 spares moves
 
     pub fits_here : ChoosesSibling (child_size now node.children) i slot None → length (leaf_pairs (now.leaf left.0)) + length (leaf_pairs (now.leaf right.0)) ≤ 64
     fits_here chosen = omega (arith, choosing.fits_so (child_size now node.children) i slot _ _ left_size right_size size_here chosen)
@@ -271,11 +275,15 @@ module _ {K V A : Type 0} {cmp : K → K → Ordering} (total' : IsTotalOrder cm
     pub apart_there : left.0 ≡ right.0 → ⊥
     apart_there = apart total' is_summary now path number i c slot left right left_so right_so
 
-    pub rotates_there : (giver : Sibling) → ChoosesSibling (child_size now (inner_children (now.inner number.0))) i slot (Some giver) → CanGive giver (length (leaf_pairs (now.leaf left.0))) (length (leaf_pairs (now.leaf right.0)))
-    rotates_there giver chosen = rotates_here total' is_summary now path number i c slot left right left_so right_so giver (chosen_so slot (Some giver) chosen)
+    pub spares_there : (giver : Sibling) → ChoosesSibling (child_size now (inner_children (now.inner number.0))) i slot (Some giver) → CanSpare giver 1 (length (leaf_pairs (now.leaf left.0))) (length (leaf_pairs (now.leaf right.0)))
+    spares_there giver chosen = spares_here total' is_summary now path number i c slot left right left_so right_so giver (chosen_so slot (Some giver) chosen)
 
-    pub enough_there : (giver : Sibling) (x y : ℕ) → ChoosesSibling (child_size now (inner_children (now.inner number.0))) i slot (Some giver) → Moves giver (length (leaf_pairs (now.leaf left.0))) (length (leaf_pairs (now.leaf right.0))) x y → (16 ≤ x) × (16 ≤ y)
-    enough_there giver x y chosen moves = enough_then total' is_summary now path number i c slot left right left_so right_so giver x y (chosen_so slot (Some giver) chosen) moves
+    pub rotates_there : (giver : Sibling) (n : ℕ) → ChoosesSibling (child_size now (inner_children (now.inner number.0))) i slot (Some giver) → CanSpare giver n (length (leaf_pairs (now.leaf left.0))) (length (leaf_pairs (now.leaf right.0)))
+        → CanGiveMany giver n (length (leaf_pairs (now.leaf left.0))) (length (leaf_pairs (now.leaf right.0)))
+    rotates_there giver n chosen spares = rotates_here total' is_summary now path number i c slot left right left_so right_so giver n (chosen_so slot (Some giver) chosen) spares
+
+    pub enough_there : (giver : Sibling) (n x y : ℕ) → CanSpare giver n (length (leaf_pairs (now.leaf left.0))) (length (leaf_pairs (now.leaf right.0))) → MovesMany giver n (length (leaf_pairs (now.leaf left.0))) (length (leaf_pairs (now.leaf right.0))) x y → (16 ≤ x) × (16 ≤ y)
+    enough_there giver n x y spares moves = enough_then total' is_summary now path number i c slot left right left_so right_so giver n x y spares moves
 
     pub merges_there : ChoosesSibling (child_size now (inner_children (now.inner number.0))) i slot None → length (leaf_pairs (now.leaf left.0)) + length (leaf_pairs (now.leaf right.0)) ≤ 64
     merges_there chosen = fits_here total' is_summary now path number i c slot left right left_so right_so (chosen_so slot None chosen)

@@ -19,7 +19,7 @@ use Rattle.bptree_rebalancing.specs.Rebalance.{RebalancesPair}
 use Rattle.bptree_invariant.specs.Order.{AtLeast, Under, Within, Between}
 use Rattle.bptree_invariant.specs.Outcome.{Done, Split}
 use Rattle.bptree_invariant.specs.Shape.{leaf_pairs, leaf_count, stored, IsTree}
-use Rattle.bptree_rebalancing.specs.Transfer.{MovesPair, MergesLeaf}
+use Rattle.bptree_rebalancing.specs.Transfer.{MovesPairs, MergesLeaf}
 use Rattle.bptree_rebalancing.specs.declared.rotate_merge.Sibling.{Sibling}
 use Rattle.bptree_propagation.proofs.LeafEdit.{all_both, below_start, from_start, start_between}
 use Rattle.bptree_invariant.proofs.Ordered.{AtLeast-up, Under-less, ascending_joined, ascending_after}
@@ -89,8 +89,8 @@ module _ {K V A : Type 0} {cmp : K → K → Ordering} (total' : IsTotalOrder cm
       summed = λ l r. tt;
     }
 
-  -- one leaf rotates a pair to the other
-  module _ (giver : Sibling) (other' : Leaf K V) (u : K) (is_right : after.leaf right.0 ≡ Present other') (moves : MovesPair giver one other one' other') (starts : StartsAt cmp u other'.pairs)
+  -- one leaf rotates pairs to the other
+  module _ (giver : Sibling) (count : ℕ) (other' : Leaf K V) (u : K) (is_right : after.leaf right.0 ≡ Present other') (moves : MovesPairs giver count one other one' other') (starts : StartsAt cmp u other'.pairs)
       (least : (16 ≤ length one'.pairs) × (16 ≤ length other'.pairs)) (most : (length one'.pairs ≤ 64) × (length other'.pairs ≤ 64)) where
     stored_rotated : (n : ℕ) → stored (after.leaf n) ≡ stored (now.leaf n)
     stored_rotated n =

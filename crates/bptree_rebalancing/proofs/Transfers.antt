@@ -6,10 +6,11 @@ use Rattle.std.proofs.lemmas.List.{take_at, drop_at}
 use Rattle.std.proofs.lemmas.List.Edits.{length-insert, length-remove}
 use Rattle.bptree_keys.specs.declared.node_id.LeafNodeId.{LeafNodeId}
 use Rattle.bptree_keys.specs.declared.node_id.NodeId.{NodeId}
+use Rattle.bptree_nodes.proofs.Inverses.{split_same}
 use Rattle.bptree_nodes.specs.Inner.{Inner, with_entry, without_entry, first_children, later_children}
 use Rattle.bptree_nodes.specs.Leaf.{Leaf}
 use Rattle.bptree_nodes.specs.Slot.{Slot, Present}
-use Rattle.bptree_rebalancing.specs.Transfer.{other_of, CanGive, Moves, MovesPair, MovesChild, MergesLeaf, MergesInner, HasEntry, Rotates, Merges, ExchangesJoint}
+use Rattle.bptree_rebalancing.specs.Transfer.{other_of, CanGive, Moves, MovesMany, MovesPairs, MovesChild, MergesLeaf, MergesInner, HasEntry, Rotates, Merges, ExchangesJoint}
 use Rattle.bptree_propagation.specs.Sums.{HasChildAt, with_summary, with_split}
 use Rattle.bptree_propagation.specs.declared.node_changes.NodeSplit.{NodeSplit}
 use Rattle.bptree_rebalancing.specs.declared.rotate_merge.ParentEntry.{ParentEntry}
@@ -26,13 +27,6 @@ module _ {X : Type 0} where
   insert_removed [] i x read = cc
   insert_removed (y ∷ xs) zero x read = let same : y ≡ x = cc in rw same refl
   insert_removed (y ∷ xs) (suc i) x read = ap (λ l. y ∷ l) (insert_removed xs i x read)
-
-  -- two equal concatenations whose first parts have the same length have equal parts
-  pub split_same : (xs ys zs ws : List X) → xs ++ ys ≡ zs ++ ws → length xs ≡ length zs → (xs ≡ zs) × (ys ≡ ws)
-  split_same xs ys zs ws same long = (
-    sym (take_at xs ys (length xs) refl) ∙ (ap (take (length xs)) same ∙ take_at zs ws (length xs) (sym long)),
-    sym (drop_at xs ys (length xs) refl) ∙ (ap (drop (length xs)) same ∙ drop_at zs ws (length xs) (sym long)),
-  )
 
   pub read_at_end : (xs ys : List X) (x : X) (i : ℕ) → i ≡ length xs → slice_get (xs ++ x ∷ ys) i ≡ Some x
   read_at_end [] ys x i e = rw e refl
@@ -71,6 +65,10 @@ back_sizes : (giver : Sibling) (a b c d e f : ℕ) → Moves giver a b c d → M
 back_sizes Left a b c d e f there back = (omega arith, omega arith)
 back_sizes Right a b c d e f there back = (omega arith, omega arith)
 
+back_many : (giver : Sibling) (n a b c d e f : ℕ) → MovesMany giver n a b c d → MovesMany (other_of giver) n c d e f → (e ≡ a) × (f ≡ b)
+back_many Left n a b c d e f there back = (omega arith, omega arith)
+back_many Right n a b c d e f there back = (omega arith, omega arith)
+
 pub can_give_back : (giver : Sibling) (a b c d : ℕ) → CanGive giver a b → Moves giver a b c d → CanGive (other_of giver) c d
 can_give_back Left a b c d can moves = (omega arith, omega arith, omega arith)
 can_give_back Right a b c d can moves = (omega arith, omega arith, omega arith)
@@ -82,10 +80,10 @@ pub node_same : {K A : Type 0} (x y : Inner K A) → x.keys ≡ y.keys → x.chi
 node_same x y keys children arguments = λ i. record { keys = keys i; children = children i; arguments = arguments i }
 
 module _ {K V : Type 0} where
-  -- a pair moves back
-  pub pair_moved_back : (giver : Sibling) (a b c d e f : Leaf K V) → MovesPair giver a b c d → MovesPair (other_of giver) c d e f → (e ≡ a) × (f ≡ b)
-  pair_moved_back giver a b c d e f there back =
-      let sizes = back_sizes giver (length a.pairs) (length b.pairs) (length c.pairs) (length d.pairs) (length e.pairs) (length f.pairs) there.sizes back.sizes in
+  -- pairs move back
+  pub pairs_moved_back : (giver : Sibling) (n : ℕ) (a b c d e f : Leaf K V) → MovesPairs giver n a b c d → MovesPairs (other_of giver) n c d e f → (e ≡ a) × (f ≡ b)
+  pairs_moved_back giver n a b c d e f there back =
+      let sizes = back_many giver n (length a.pairs) (length b.pairs) (length c.pairs) (length d.pairs) (length e.pairs) (length f.pairs) there.sizes back.sizes in
       let parts = split_same e.pairs f.pairs a.pairs b.pairs (back.pairs ∙ there.pairs) sizes.0 in (
         leaf_same e a parts.0 (ap (λ (l : Leaf K V). l.prev) back.left_links ∙ ap (λ (l : Leaf K V). l.prev) there.left_links) (ap (λ (l : Leaf K V). l.next) back.left_links ∙ ap (λ (l : Leaf K V). l.next) there.left_links),
         leaf_same f b parts.1 (ap (λ (l : Leaf K V). l.prev) back.right_links ∙ ap (λ (l : Leaf K V). l.prev) there.right_links) (ap (λ (l : Leaf K V). l.next) back.right_links ∙ ap (λ (l : Leaf K V). l.next) there.right_links),

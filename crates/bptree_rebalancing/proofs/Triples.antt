@@ -12,15 +12,15 @@ use Rattle.bptree_invariant.specs.Shape.{leaf_pairs, leaf_next, inner_keys, inne
 use Rattle.bptree_propagation.specs.Change.{StartsAt}
 use Rattle.bptree_propagation.specs.LeafChange.{SumsUpLeaf}
 use Rattle.bptree_propagation.proofs.Undone.{same_node}
-use Rattle.bptree_rebalancing.specs.ChooseSibling.{CanGivePair, CanGiveChild, FitInOneLeaf, FitInOneNode}
-use Rattle.bptree_rebalancing.specs.RotateMerge.{MergesLeaves, RotatesInners, MergesInners, UndoesRotateInners, UndoesMergeLeaves, UndoesMergeInners, ThreeAt, MovesPairAt, ResummarizesLeavesAt, RotatesLeavesAt, MergesLeavesAt, RotatesInnersAt, MergesInnersAt}
-use Rattle.bptree_rebalancing.specs.Transfer.{other_of, CanGive, MovesPair, ExchangesJoint}
+use Rattle.bptree_rebalancing.specs.ChooseSibling.{CanGivePairs, CanGiveChild, FitInOneLeaf, FitInOneNode}
+use Rattle.bptree_rebalancing.specs.RotateMerge.{MergesLeaves, RotatesInners, MergesInners, UndoesRotateInners, UndoesMergeLeaves, UndoesMergeInners, ThreeAt, MovesPairsAt, ResummarizesLeavesAt, RotatesLeavesAt, MergesLeavesAt, RotatesInnersAt, MergesInnersAt}
+use Rattle.bptree_rebalancing.specs.Transfer.{other_of, CanGive, MovesPairs, ExchangesJoint}
 use Rattle.bptree_rebalancing.specs.declared.rotate_merge.ParentEntry.{ParentEntry}
 use Rattle.bptree_rebalancing.specs.declared.rotate_merge.Sibling.{Sibling}
 use Rattle.bptree_rebalancing.specs.declared.rotate_merge.Sibling.TheVariants as sibling
 use Rattle.bptree_rebalancing.specs.declared.rotate_merge.ChildSummaries.{ChildSummaries}
 use Rattle.bptree_propagation.specs.Sums.{HasChildAt}
-use Rattle.bptree_rebalancing.proofs.Transfers.{joint_back, pair_moved_back, can_give_back, rotated_index, merged_index, children_left}
+use Rattle.bptree_rebalancing.proofs.Transfers.{joint_back, pairs_moved_back, can_give_back, rotated_index, merged_index, children_left}
 
 pub slots_same : {I L : Type 0} (x y : Slots I L) → ((n : ℕ) → x.inner n ≡ y.inner n) → ((n : ℕ) → x.leaf n ≡ y.leaf n) → x ≡ y
 slots_same x y inner leaf = λ i. record { inner = λ n. inner n i; leaf = λ n. leaf n i }
@@ -88,9 +88,9 @@ module _ {K V A : Type 0} {old s1 s2 s3 s4 s5 : Slots (Inner K A) (Leaf K V)} (i
       transfers = merges;
     }
 
--- a pair that was moved moves back
-pub pairs_back : {K V A : Type 0} {giver : Sibling} (left right : LeafNodeId) {old mid new : Slots (Inner K A) (Leaf K V)} → MovesPairAt old mid giver left right → (mid' : Slots (Inner K A) (Leaf K V)) → mid'.leaf ≡ mid.leaf → MovesPairAt mid' new (other_of giver) left right → new.leaf ≡ old.leaf
-pairs_back {K} {V} {A} {giver} left right {old} {mid} {new} there mid' same back = λ i n. each n i
+-- pairs that were moved move back
+pub pairs_back : {K V A : Type 0} {giver : Sibling} {count : ℕ} (left right : LeafNodeId) {old mid new : Slots (Inner K A) (Leaf K V)} → MovesPairsAt old mid giver count left right → (mid' : Slots (Inner K A) (Leaf K V)) → mid'.leaf ≡ mid.leaf → MovesPairsAt mid' new (other_of giver) count left right → new.leaf ≡ old.leaf
+pairs_back {K} {V} {A} {giver} {count} left right {old} {mid} {new} there mid' same back = λ i n. each n i
   where
     one : back.one ≡ there.one'
     one = same_node (mid'.leaf left.0) back.one there.one' back.at_left (ap (λ (f : ℕ → Slot (Leaf K V)). f left.0) same ∙ there.is_left)
@@ -99,7 +99,7 @@ pairs_back {K} {V} {A} {giver} left right {old} {mid} {new} there mid' same back
     other = same_node (mid'.leaf right.0) back.other there.other' back.at_right (ap (λ (f : ℕ → Slot (Leaf K V)). f right.0) same ∙ there.is_right)
 
     undone : (back.one' ≡ there.one) × (back.other' ≡ there.other)
-    undone = pair_moved_back giver there.one there.other there.one' there.other' back.one' back.other' there.moves (subst (λ (l : Leaf K V). MovesPair (other_of giver) l there.other' back.one' back.other') one (subst (λ (l : Leaf K V). MovesPair (other_of giver) back.one l back.one' back.other') other back.moves))
+    undone = pairs_moved_back giver count there.one there.other there.one' there.other' back.one' back.other' there.moves (subst (λ (l : Leaf K V). MovesPairs (other_of giver) count l there.other' back.one' back.other') one (subst (λ (l : Leaf K V). MovesPairs (other_of giver) count back.one l back.one' back.other') other back.moves))
 
     each : (n : ℕ) → new.leaf n ≡ old.leaf n
     each n =
@@ -111,9 +111,9 @@ pairs_back {K} {V} {A} {giver} left right {old} {mid} {new} there mid' same back
           ]
         ]
 
-module _ {K V A : Type 0} {cmp : K → K → Ordering} {is_summary : A → List K → Type 0} {slot : ℕ} {giver : Sibling} (id : InnerNodeId) (left right : LeafNodeId) {joint : ParentEntry K A} where
-  -- two leaves rotated a pair, and the node above takes their summaries and a separator
-  pub leaves_rotated : {old mid new : Slots (Inner K A) (Leaf K V)} → (left.0 ≡ right.0 → ⊥) → MovesPairAt old mid giver left right → ResummarizesLeavesAt cmp is_summary slot mid new id left right joint → RotatesLeavesAt cmp is_summary slot old new id giver left right joint
+module _ {K V A : Type 0} {cmp : K → K → Ordering} {is_summary : A → List K → Type 0} {slot : ℕ} {giver : Sibling} {count : ℕ} (id : InnerNodeId) (left right : LeafNodeId) {joint : ParentEntry K A} where
+  -- two leaves rotated pairs, and the node above takes their summaries and a separator
+  pub leaves_rotated : {old mid new : Slots (Inner K A) (Leaf K V)} → (left.0 ≡ right.0 → ⊥) → MovesPairsAt old mid giver count left right → ResummarizesLeavesAt cmp is_summary slot mid new id left right joint → RotatesLeavesAt cmp is_summary slot old new id giver count left right joint
   leaves_rotated {old} {mid} {new} apart moved reported =
       let x = reported.exchanges in
       let one = same_node (mid.leaf left.0) reported.one moved.one' reported.at_left moved.is_left in
@@ -144,7 +144,7 @@ module _ {K V A : Type 0} {cmp : K → K → Ordering} {is_summary : A → List 
       }
 
   -- the two leaves, and the node above, are again what they were
-  pub leaves_unrotated : {was now mid new : Slots (Inner K A) (Leaf K V)} → (node back : Inner K A) (out : ParentEntry K A) → RotatesLeavesAt cmp is_summary slot was now id giver left right joint → now.inner id.0 ≡ Present node → ExchangesJoint slot node joint out back → UpdatesInner now mid id.0 (Present back) → MovesPairAt mid new (other_of giver) left right
+  pub leaves_unrotated : {was now mid new : Slots (Inner K A) (Leaf K V)} → (node back : Inner K A) (out : ParentEntry K A) → RotatesLeavesAt cmp is_summary slot was now id giver count left right joint → now.inner id.0 ≡ Present node → ExchangesJoint slot node joint out back → UpdatesInner now mid id.0 (Present back) → MovesPairsAt mid new (other_of giver) count left right
       → new ≡ was
   leaves_unrotated {was} {now} {mid} {new} node back out r here x put moved =
       let three = r.three in
@@ -152,7 +152,7 @@ module _ {K V A : Type 0} {cmp : K → K → Ordering} {is_summary : A → List 
       let reported : ParentEntry K A = record { left = rotates.left; separator = rotates.separator; right = rotates.right } in
       let is = same_node (now.inner id.0) node three.node' here three.is_node ∙ rotates.is in
       let undone = joint_back three.node r.transfers.bare node back slot r.transfers.child joint reported out r.transfers.entry rotates.summary is x in
-      let there : MovesPairAt was (record { inner = was.inner; leaf = now.leaf }) giver left right = record {
+      let there : MovesPairsAt was (record { inner = was.inner; leaf = now.leaf }) giver count left right = record {
         one = three.one;
         other = three.other;
         one' = three.one';
@@ -362,9 +362,9 @@ module _ {K V A : Type 0} {cmp : K → K → Ordering} {is_summary : A → List 
       rw (is, one_is, z_is, merged.nodes.left_is, merged.nodes.right_is) (index.0, index.1, omega (arith, was_long, all), omega (arith, was_long, m.fits), refl)
 
 -- a pair is taken out of one leaf, and stored in its sibling
-module _ {K V A : Type 0} {giver : Sibling} {old mid new : Slots (Inner K A) (Leaf K V)} (left right : LeafNodeId) {one one' other other' : Leaf K V} (pair : K × V) (apart : left.0 ≡ right.0 → ⊥) (can : CanGivePair old giver left right) where
+module _ {K V A : Type 0} {giver : Sibling} {old mid new : Slots (Inner K A) (Leaf K V)} (left right : LeafNodeId) {one one' other other' : Leaf K V} (pair : K × V) (apart : left.0 ≡ right.0 → ⊥) (can : CanGivePairs old giver 1 left right) where
   pub pair_moved_right : giver ≡ sibling.Left → old.leaf left.0 ≡ Present one → UpdatesLeaf old mid left.0 (Present one') → mid.leaf right.0 ≡ Present other → UpdatesLeaf mid new right.0 (Present other')
-      → one.pairs ≡ one'.pairs ++ pair ∷ [] → one' ≡ record one { pairs = one'.pairs } → other' ≡ record other { pairs = pair ∷ other.pairs } → MovesPairAt old new giver left right
+      → one.pairs ≡ one'.pairs ++ pair ∷ [] → one' ≡ record one { pairs = one'.pairs } → other' ≡ record other { pairs = pair ∷ other.pairs } → MovesPairsAt old new giver 1 left right
   pair_moved_right is at_left p1 v2 p2 taken links put =
       let at_right = sym (p1.leaf.others right.0 (λ e. apart (sym e))) ∙ v2 in
       rw is (record {
@@ -383,7 +383,7 @@ module _ {K V A : Type 0} {giver : Sibling} {old mid new : Slots (Inner K A) (Le
       })
 
   pub pair_moved_left : giver ≡ sibling.Right → old.leaf right.0 ≡ Present other → UpdatesLeaf old mid right.0 (Present other') → mid.leaf left.0 ≡ Present one → UpdatesLeaf mid new left.0 (Present one')
-      → other.pairs ≡ pair ∷ other'.pairs → other' ≡ record other { pairs = other'.pairs } → one' ≡ record one { pairs = one.pairs ++ pair ∷ [] } → MovesPairAt old new giver left right
+      → other.pairs ≡ pair ∷ other'.pairs → other' ≡ record other { pairs = other'.pairs } → one' ≡ record one { pairs = one.pairs ++ pair ∷ [] } → MovesPairsAt old new giver 1 left right
   pair_moved_left is at_right p1 v2 p2 taken links put =
       let at_left = sym (p1.leaf.others left.0 apart) ∙ v2 in
       rw is (record {

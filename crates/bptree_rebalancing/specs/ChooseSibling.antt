@@ -8,7 +8,7 @@ use Rattle.bptree_keys.specs.declared.node_id.InnerNodeId.{InnerNodeId}
 use Rattle.bptree_keys.specs.declared.node_id.LeafNodeId.{LeafNodeId}
 use Rattle.bptree_keys.specs.declared.node_id.NodeId.{NodeId}
 use Rattle.bptree_keys.specs.declared.node_id.NodeId.TheVariants as kind
-use Rattle.bptree_rebalancing.specs.Transfer.{CanGive}
+use Rattle.bptree_rebalancing.specs.Transfer.{CanGive, CanGiveMany, CanSpare}
 use Rattle.bptree_invariant.specs.Shape.{leaf_pairs, inner_keys, inner_children}
 use Rattle.bptree_rebalancing.specs.declared.rotate_merge.Sibling.{Sibling}
 use Rattle.bptree_rebalancing.specs.declared.rotate_merge.Sibling.TheVariants.{Left, Right}
@@ -84,9 +84,19 @@ module _ {K V A : Type 0} (slots : Slots (Inner K A) (Leaf K V)) where
   abbrev pub size_below : InnerNodeId → ℕ → ℕ
   size_below id = child_size (inner_children (slots.inner id.0))
 
-  -- the giver of two leaves, or of two inner nodes, has one to give, and the other has room
-  abbrev pub CanGivePair : Sibling → LeafNodeId → LeafNodeId → Type 0
-  CanGivePair giver left right = CanGive giver (length (leaf_pairs (slots.leaf left.0))) (length (leaf_pairs (slots.leaf right.0)))
+  -- the giver of two leaves has `count` pairs to give, and the other has room for them
+  abbrev pub CanGivePairs : Sibling → ℕ → LeafNodeId → LeafNodeId → Type 0
+  CanGivePairs giver count left right = CanGiveMany giver count (length (leaf_pairs (slots.leaf left.0))) (length (leaf_pairs (slots.leaf right.0)))
+
+  -- the giver of two leaves has enough pairs left after it gives `count`, which is not zero
+  abbrev pub CanSparePairs : Sibling → ℕ → LeafNodeId → LeafNodeId → Type 0
+  CanSparePairs giver count left right = CanSpare giver count (length (leaf_pairs (slots.leaf left.0))) (length (leaf_pairs (slots.leaf right.0)))
+
+  -- the giver of two leaves has more than 16 pairs
+  abbrev pub HasSparePairs : Sibling → LeafNodeId → LeafNodeId → Type 0
+  HasSparePairs giver left right = CanSparePairs giver 1 left right
+
+  -- the giver of two inner nodes has a child to give, and the other has room
 
   abbrev pub CanGiveChild : Sibling → InnerNodeId → InnerNodeId → Type 0
   CanGiveChild giver left right = CanGive giver (length (inner_keys (slots.inner left.0))) (length (inner_keys (slots.inner right.0)))

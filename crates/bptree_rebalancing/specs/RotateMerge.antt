@@ -10,7 +10,7 @@ use Rattle.bptree_keys.specs.declared.node_id.NodeId.{NodeId}
 use Rattle.bptree_keys.specs.declared.node_id.NodeId.TheVariants as kind
 use Rattle.bptree_propagation.specs.Change.{StartsAt}
 use Rattle.bptree_propagation.specs.LeafChange.{SumsUpLeaf}
-use Rattle.bptree_rebalancing.specs.Transfer.{CanGive, MovesPair, MergesLeaf, MovesChild, MergesInner, HasEntry, Rotates, Merges, ExchangesJoint}
+use Rattle.bptree_rebalancing.specs.Transfer.{CanGive, CanGiveMany, MovesPairs, MergesLeaf, MovesChild, MergesInner, HasEntry, Rotates, Merges, ExchangesJoint}
 use Rattle.bptree_propagation.specs.Sums.{SumsUp, IndexAt}
 use Rattle.bptree_propagation.specs.declared.node_changes.SummaryUpdate.{SummaryUpdate}
 use Rattle.bptree_invariant.specs.Shape.{leaf_pairs, leaf_next, inner_keys, inner_children}
@@ -19,12 +19,12 @@ use Rattle.bptree_rebalancing.specs.declared.rotate_merge.Sibling.{Sibling}
 use Rattle.bptree_rebalancing.specs.declared.rotate_merge.ChildSummaries.{ChildSummaries}
 
 module _ {K V A : Type 0} (cmp : K → K → Ordering) (is_summary : A → List K → Type 0) where
-  -- two leaves rotated a pair, and another entry replaced the one between them in the parent
-  pub record RotatesLeaves (giver : Sibling) (slot : ℕ) (node : Inner K A) (left right : Leaf K V) (node' : Inner K A) (left' right' : Leaf K V) (joint : ParentEntry K A) : Type 0 where
+  -- two leaves rotated `count` pairs, and another entry replaced the one between them in the parent
+  pub record RotatesLeaves (giver : Sibling) (count slot : ℕ) (node : Inner K A) (left right : Leaf K V) (node' : Inner K A) (left' right' : Leaf K V) (joint : ParentEntry K A) : Type 0 where
     pub bare : Inner K A
     pub child : NodeId
     pub entry : HasEntry node bare slot joint.separator child joint.right
-    pub moves : MovesPair giver left right left' right'
+    pub moves : MovesPairs giver count left right left' right'
     pub rotates : Rotates cmp bare slot child (SumsUpLeaf cmp is_summary left'.pairs) (λ s. StartsAt cmp s right'.pairs) (SumsUpLeaf cmp is_summary right'.pairs) node' joint.left
 
   -- the summaries of two leaves, and a separator between them
@@ -101,8 +101,8 @@ pub record AreInnersBeside {K V A : Type 0} (slots : Slots (Inner K A) (Leaf K V
   pub right_some : 0 < length (inner_children (slots.inner right.0))
   pub apart : (left.0 ≡ right.0 → ⊥) × (left.0 ≡ id.0 → ⊥) × (right.0 ≡ id.0 → ⊥)
 
--- a pair of one leaf moved to its sibling
-pub record MovesPairAt {K V A : Type 0} (old new : Slots (Inner K A) (Leaf K V)) (giver : Sibling) (left right : LeafNodeId) : Type 0 where
+-- `count` pairs of one leaf moved to its sibling
+pub record MovesPairsAt {K V A : Type 0} (old new : Slots (Inner K A) (Leaf K V)) (giver : Sibling) (count : ℕ) (left right : LeafNodeId) : Type 0 where
   pub one : Leaf K V
   pub other : Leaf K V
   pub one' : Leaf K V
@@ -113,8 +113,8 @@ pub record MovesPairAt {K V A : Type 0} (old new : Slots (Inner K A) (Leaf K V))
   pub is_right : new.leaf right.0 ≡ Present other'
   pub leaves : (n : ℕ) → (n ≡ left.0 → ⊥) → (n ≡ right.0 → ⊥) → new.leaf n ≡ old.leaf n
   pub inner : new.inner ≡ old.inner
-  pub can : CanGive giver (length one.pairs) (length other.pairs)
-  pub moves : MovesPair giver one other one' other'
+  pub can : CanGiveMany giver count (length one.pairs) (length other.pairs)
+  pub moves : MovesPairs giver count one other one' other'
 
 -- the slots of a node and of two children of it, before and after a change; `behind` is the slot of
 -- the right child after it
@@ -150,13 +150,13 @@ module _ {K V A : Type 0} (cmp : K → K → Ordering) (is_summary : A → List 
     pub exchanges : ExchangesJoint slot node reported joint node'
 
   -- a node and two leaves below it, with these ids, changed by a rotation, and no other node did
-  pub record RotatesLeavesAt (giver : Sibling) (left right : LeafNodeId) (joint : ParentEntry K A) : Type 0 where
+  pub record RotatesLeavesAt (giver : Sibling) (count : ℕ) (left right : LeafNodeId) (joint : ParentEntry K A) : Type 0 where
     pub other' : Leaf K V
     pub three : ThreeAt old.inner new.inner old.leaf new.leaf id.0 left.0 right.0 (Present other')
     pub inners : (n : ℕ) → (n ≡ id.0 → ⊥) → new.inner n ≡ old.inner n
     pub leaves : (n : ℕ) → (n ≡ left.0 → ⊥) → (n ≡ right.0 → ⊥) → new.leaf n ≡ old.leaf n
-    pub can : CanGive giver (length three.one.pairs) (length three.other.pairs)
-    pub transfers : RotatesLeaves cmp is_summary giver slot three.node three.one three.other three.node' three.one' other' joint
+    pub can : CanGiveMany giver count (length three.one.pairs) (length three.other.pairs)
+    pub transfers : RotatesLeaves cmp is_summary giver count slot three.node three.one three.other three.node' three.one' other' joint
 
   -- a node and two leaves below it changed by a merge: the right leaf is taken out, and its id
   -- stays reserved
@@ -189,8 +189,8 @@ module _ {K V A : Type 0} (cmp : K → K → Ordering) (is_summary : A → List 
 -- The children `left` and `right` rotated or merged, and nothing else changed. Before a merge, the
 -- left one had `kept` pairs or keys.
 module _ {K V A : Type 0} (cmp : K → K → Ordering) (is_summary : A → List K → Type 0) (slot : ℕ) (now : Slots (Inner K A) (Leaf K V)) (id : InnerNodeId) where
-  abbrev pub HaveRotatedLeaves : Sibling → LeafNodeId → LeafNodeId → ParentEntry K A → Type 0
-  HaveRotatedLeaves giver left right joint = (was : Slots (Inner K A) (Leaf K V)) × RotatesLeavesAt cmp is_summary slot was now id giver left right joint
+  abbrev pub HaveRotatedLeaves : Sibling → ℕ → LeafNodeId → LeafNodeId → ParentEntry K A → Type 0
+  HaveRotatedLeaves giver count left right joint = (was : Slots (Inner K A) (Leaf K V)) × RotatesLeavesAt cmp is_summary slot was now id giver count left right joint
 
   abbrev pub HaveMergedLeaves : LeafNodeId → LeafNodeId → ParentEntry K A → Leaf K V → ℕ → Type 0
   HaveMergedLeaves left right joint emptied kept =
@@ -205,9 +205,9 @@ module _ {K V A : Type 0} (cmp : K → K → Ordering) (is_summary : A → List 
 
 -- every slot is again what it was before a rotation or a merge
 module _ {K V A : Type 0} (cmp : K → K → Ordering) (is_summary : A → List K → Type 0) (slot : ℕ) (now new : Slots (Inner K A) (Leaf K V)) (id : InnerNodeId) where
-  abbrev pub UndoesRotateLeavesAt : Sibling → LeafNodeId → LeafNodeId → ParentEntry K A → Type 0
-  UndoesRotateLeavesAt giver left right joint =
-      (was : Slots (Inner K A) (Leaf K V)) → RotatesLeavesAt cmp is_summary slot was now id giver left right joint → new ≡ was
+  abbrev pub UndoesRotateLeavesAt : Sibling → ℕ → LeafNodeId → LeafNodeId → ParentEntry K A → Type 0
+  UndoesRotateLeavesAt giver count left right joint =
+      (was : Slots (Inner K A) (Leaf K V)) → RotatesLeavesAt cmp is_summary slot was now id giver count left right joint → new ≡ was
 
   abbrev pub UndoesMergeLeavesAt : LeafNodeId → LeafNodeId → ParentEntry K A → Leaf K V → ℕ → Type 0
   UndoesMergeLeavesAt left right joint emptied kept =

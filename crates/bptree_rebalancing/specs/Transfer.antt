@@ -23,13 +23,28 @@ abbrev pub Moves : Sibling → ℕ → ℕ → ℕ → ℕ → Type 0
 Moves Left a b c d = (c + 1 ≡ a) × (d ≡ b + 1)
 Moves Right a b c d = (c ≡ a + 1) × (d + 1 ≡ b)
 
+-- the giver has `count` to give, and its sibling has room for them
+abbrev pub CanGiveMany : Sibling → ℕ → ℕ → ℕ → Type 0
+CanGiveMany Left count a b = (count ≤ a) × (a ≤ 64) × (b + count ≤ 64)
+CanGiveMany Right count a b = (count ≤ b) × (b ≤ 64) × (a + count ≤ 64)
+
+-- the giver has enough left after it gives `count`, which is not zero
+abbrev pub CanSpare : Sibling → ℕ → ℕ → ℕ → Type 0
+CanSpare Left count a b = (0 < count) × (count + 16 ≤ a)
+CanSpare Right count a b = (0 < count) × (count + 16 ≤ b)
+
+-- `count` move from the giver to its sibling
+abbrev pub MovesMany : Sibling → ℕ → ℕ → ℕ → ℕ → ℕ → Type 0
+MovesMany Left count a b c d = (c + count ≡ a) × (d ≡ b + count)
+MovesMany Right count a b c d = (c ≡ a + count) × (d + count ≡ b)
+
 module _ {K V : Type 0} where
-  -- one pair moves between two leaves, of which one follows the other
-  pub record MovesPair (giver : Sibling) (left right left' right' : Leaf K V) : Type 0 where
+  -- `count` pairs move between two leaves, of which one follows the other
+  pub record MovesPairs (giver : Sibling) (count : ℕ) (left right left' right' : Leaf K V) : Type 0 where
     pub left_links : left' ≡ record left { pairs = left'.pairs }
     pub right_links : right' ≡ record right { pairs = right'.pairs }
     pub pairs : left'.pairs ++ right'.pairs ≡ left.pairs ++ right.pairs
-    pub sizes : Moves giver (length left.pairs) (length right.pairs) (length left'.pairs) (length right'.pairs)
+    pub sizes : MovesMany giver count (length left.pairs) (length right.pairs) (length left'.pairs) (length right'.pairs)
 
   -- two leaves merge: the left one takes all of the right one, and its link to the next
   pub record MergesLeaf (left right left' right' : Leaf K V) : Type 0 where

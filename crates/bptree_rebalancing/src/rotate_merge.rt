@@ -2,7 +2,7 @@
 //! allocation fails on the way, all three nodes are again what they were.
 ghost use Rattle.std.specs.Prelude.{◌≡◌, ◌<◌, ◌≤◌, ◌+◌, [], length, IfOk, IsOk, OnErr, IfErr};
 ghost use Rattle.bptree_keys.specs.Keys.{AllInfallible};
-ghost use Rattle.bptree_rebalancing.specs.Transfer.{other_of, CanGive, MovesChild, ExchangesJoint};
+ghost use Rattle.bptree_rebalancing.specs.Transfer.{other_of, CanGive, CanGiveMany, MovesChild, MovesPairs, ExchangesJoint};
 ghost use Rattle.bptree_rebalancing.specs.RotateMerge.{MergesLeaves, RotatesInners, MergesInners, TakesInner, TakesInners, TakesLeaf, ReportsLeaves, UndoesMergeInners, UndoesMergeLeaves, UndoesRotateInners};
 ghost use Rattle.bptree_propagation.specs.Sums.{HasChildAt, SumsUp};
 
@@ -62,6 +62,22 @@ fn move_child<K: Drop, A: Drop>(
     match giver {
         Sibling::Left => left.rotate_right(separator, right),
         Sibling::Right => left.rotate_left(separator, right),
+    }
+}
+
+/// Moves `count` pairs of the giver to its sibling.
+pub(crate) fn move_pairs<K: Key, V: Drop>(
+    giver: Sibling,
+    count: usize,
+    left: &mut LeafNode<K, V>,
+    right: &mut LeafNode<K, V>,
+)
+    requires { CanGiveMany giver count (length left.old.pairs) (length right.old.pairs) }
+    ensures { MovesPairs giver count left.old right.old left.new right.new }
+{
+    match giver {
+        Sibling::Left => left.move_last_to(count, right),
+        Sibling::Right => right.move_first_to(count, left),
     }
 }
 

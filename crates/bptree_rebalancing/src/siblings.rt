@@ -5,13 +5,14 @@ ghost use Rattle.bptree_propagation.specs.Failing.{NeverFails};
 ghost use Rattle.bptree_nodes.specs.Slot.{IsPresent};
 ghost use Rattle.bptree_invariant.specs.Shape.{leaf_pairs, inner_keys};
 ghost use Rattle.bptree_keys.specs.declared.node_id.NodeId.TheVariants as kind;
-ghost use Rattle.bptree_rebalancing.specs.RotateMerge.{AreInnersBeside, RotatesLeavesAt, MergesLeavesAt, RotatesInnersAt, MergesInnersAt, HaveMergedInners, HaveMergedLeaves, HaveRotatedInners, HaveRotatedLeaves, MovesPairAt, ResummarizesLeavesAt, UndoesMergeInnersAt, UndoesMergeLeavesAt, UndoesRotateInnersAt, UndoesRotateLeavesAt};
+ghost use Rattle.bptree_rebalancing.specs.RotateMerge.{AreInnersBeside, RotatesLeavesAt, MergesLeavesAt, RotatesInnersAt, MergesInnersAt, HaveMergedInners, HaveMergedLeaves, HaveRotatedInners, HaveRotatedLeaves, MovesPairsAt, ResummarizesLeavesAt, UndoesMergeInnersAt, UndoesMergeLeavesAt, UndoesRotateInnersAt, UndoesRotateLeavesAt};
 ghost use Rattle.bptree_propagation.specs.Sums.{IndexAt, SumsUpAt, SumsUpFirst};
-ghost use Rattle.bptree_rebalancing.specs.ChooseSibling.{CanGiveChild, CanGivePair, FitInOneLeaf, FitInOneNode};
+ghost use Rattle.bptree_rebalancing.specs.ChooseSibling.{CanGiveChild, CanGivePairs, CanSparePairs, FitInOneLeaf, FitInOneNode};
 
 use crate::rotate_merge::{
-    ChildSummaries, ParentEntry, Sibling, exchange_joint, merge_inners, merge_leaves, parent_entry,
-    rotate_inners, take_joint, undo_merge_inners, undo_merge_leaves, undo_rotate_inners,
+    ChildSummaries, ParentEntry, Sibling, exchange_joint, merge_inners, merge_leaves, move_pairs,
+    parent_entry, rotate_inners, take_joint, undo_merge_inners, undo_merge_leaves,
+    undo_rotate_inners,
 };
 use bptree_keys::node_id::{InnerNodeId, LeafNodeId, NodeId};
 use bptree_nodes::inner_node::InnerNode;
@@ -23,9 +24,9 @@ use std::alloc::AllocError;
 fn move_pair_at<S: NodeStore>(store: &mut S, giver: Sibling, left: LeafNodeId, right: LeafNodeId)
     requires left { IsPresent ((S.slots store.old).leaf left.0) }
     requires right { IsPresent ((S.slots store.old).leaf right.0) }
-    requires can { CanGivePair (S.slots store.old) giver left right }
+    requires can { CanGivePairs (S.slots store.old) giver 1 left right }
     requires apart { left.0 ≡ right.0 → ⊥ }
-    ensures { MovesPairAt (S.slots store.old) (S.slots store.new) giver left right }
+    ensures { MovesPairsAt (S.slots store.old) (S.slots store.new) giver 1 left right }
 {
     match giver {
         Sibling::Left => {
@@ -37,6 +38,32 @@ fn move_pair_at<S: NodeStore>(store: &mut S, giver: Sibling, left: LeafNodeId, r
             store.get_mut_leaf(left).push(key, value);
         }
     }
+}
+
+// Moves `count` pairs of the giver to its sibling. One pair moves with both leaves in the store,
+// which is faster than to take them out.
+fn move_pairs_at<S: NodeStore>(
+    store: &mut S,
+    giver: Sibling,
+    count: usize,
+    left: LeafNodeId,
+    right: LeafNodeId,
+)
+    requires left { IsPresent ((S.slots store.old).leaf left.0) }
+    requires right { IsPresent ((S.slots store.old).leaf right.0) }
+    requires can { CanGivePairs (S.slots store.old) giver count left right }
+    requires apart { left.0 ≡ right.0 → ⊥ }
+    ensures { MovesPairsAt (S.slots store.old) (S.slots store.new) giver count left right }
+{
+    if count == 1 {
+        move_pair_at(store, giver, left, right);
+        return;
+    }
+    let mut one = store.take_leaf(left);
+    let mut other = store.take_leaf(right);
+    move_pairs(giver, count, &mut one, &mut other);
+    store.assign_leaf(left, one);
+    store.assign_leaf(right, other);
 }
 
 // Computes the summaries of two leaves and a separator between them, and stores these in the
@@ -62,13 +89,14 @@ fn resummarize_leaves_at<S: NodeStore>(
     take_joint(store.get_mut_inner(id), slot, joint)
 }
 
-/// Rotates a pair from one leaf to its sibling. Returns the parent's summary, and the separator and
-/// the summaries that the parent had.
+/// Rotates `count` pairs from one leaf to its sibling. Returns the parent's summary, and the
+/// separator and the summaries that the parent had.
 pub(crate) fn rotate_leaves_at<S: NodeStore>(
     store: &mut S,
     id: InnerNodeId,
     slot: usize,
     giver: Sibling,
+    count: usize,
     left: LeafNodeId,
     right: LeafNodeId,
 ) -> Result<(S::Argument, ParentEntry<S::K, S::Argument>), AllocError>
@@ -76,19 +104,19 @@ pub(crate) fn rotate_leaves_at<S: NodeStore>(
     requires most { length (inner_keys ((S.slots store.old).inner id.0)) ≤ 64 }
     requires left { IsPresent ((S.slots store.old).leaf left.0) }
     requires right { IsPresent ((S.slots store.old).leaf right.0) }
-    requires rotates { CanGivePair (S.slots store.old) giver left right }
-    requires some { 1 < length (leaf_pairs ((S.slots store.old).leaf right.0)) }
+    requires rotates { CanGivePairs (S.slots store.old) giver count left right }
+    requires spares { CanSparePairs (S.slots store.old) giver count left right }
     requires apart { left.0 ≡ right.0 → ⊥ }
-    ensures rotates { IfOk result (λ done. RotatesLeavesAt S.K.cmp S.Argument.is_summary slot (S.slots store.old) (S.slots store.new) id giver left right done.1) }
+    ensures rotates { IfOk result (λ done. RotatesLeavesAt S.K.cmp S.Argument.is_summary slot (S.slots store.old) (S.slots store.new) id giver count left right done.1) }
     ensures sums { IfOk result (SumsUpFirst S.K.cmp S.Argument.is_summary (S.slots store.new) id) }
     ensures unchanged { OnErr result (S.slots store.new ≡ S.slots store.old) }
     ensures infallible { NeverFails S.Argument.needs_no_memory S.K.is_infallible result }
 {
-    move_pair_at(store, giver, left, right);
+    move_pairs_at(store, giver, count, left, right);
     match resummarize_leaves_at(store, id, slot, left, right) {
         Ok(reported) => Ok(reported),
         Err(refusal) => {
-            move_pair_at(store, giver.other(), left, right);
+            move_pairs_at(store, giver.other(), count, left, right);
             Err(refusal)
         }
     }
@@ -100,15 +128,16 @@ pub(crate) fn undo_rotate_leaves_at<S: NodeStore>(
     id: InnerNodeId,
     slot: usize,
     giver: Sibling,
+    count: usize,
     joint: ParentEntry<S::K, S::Argument>,
     left: LeafNodeId,
     right: LeafNodeId,
 )
-    requires { HaveRotatedLeaves S.K.cmp S.Argument.is_summary slot (S.slots store.old) id giver left right joint }
-    ensures { UndoesRotateLeavesAt S.K.cmp S.Argument.is_summary slot (S.slots store.old) (S.slots store.new) id giver left right joint }
+    requires { HaveRotatedLeaves S.K.cmp S.Argument.is_summary slot (S.slots store.old) id giver count left right joint }
+    ensures { UndoesRotateLeavesAt S.K.cmp S.Argument.is_summary slot (S.slots store.old) (S.slots store.new) id giver count left right joint }
 {
     exchange_joint(store.get_mut_inner(id), slot, joint);
-    move_pair_at(store, giver.other(), left, right);
+    move_pairs_at(store, giver.other(), count, left, right);
 }
 
 /// Merges two leaves into the left one, which keeps its id. Returns the parent's summary, the

@@ -4,7 +4,9 @@ ghost use Rattle.std.specs.Prelude.{◌≡◌, ◌<◌, ◌≤◌, ◌+◌, IsOk
 ghost use Rattle.bptree_keys.specs.declared.node_id.NodeId.TheVariants as kind;
 ghost use Rattle.bptree_propagation.specs.Failing.{NeverFails};
 ghost use Rattle.bptree_nodes.specs.Slot.{IsPresent};
-ghost use Rattle.bptree_rebalancing.specs.ChooseSibling.{ChosenSibling, ChoosesSibling, HasChild, HasOneChildMore, HasIndexBelow, InnersBelow, LeavesBelow, NodesBelow, size_below};
+ghost use Rattle.bptree_rebalancing.specs.ChooseSibling.{CanSparePairs, ChosenSibling, ChoosesSibling, HasChild, HasOneChildMore, HasIndexBelow, HasSparePairs, InnersBelow, LeavesBelow, NodesBelow, size_below};
+ghost use Rattle.bptree_rebalancing.specs.Transfer.{CanSpare};
+ghost use Rattle.bptree_rebalancing.specs.declared.rotate_merge.Sibling.TheVariants.{Left};
 ghost use Rattle.bptree_rebalancing.specs.Trim.{UnderflowBelowFrom, LeafUnderflowFrom, PropagatesUnderflowFrom, PropagatesToRootFrom};
 
 use crate::rotate_merge::Sibling;
@@ -36,7 +38,7 @@ pub enum Merging {
     /// Merge if the sibling has at most 16 pairs. Otherwise the sibling gives one of its pairs.
     Late,
     /// Merge if the sibling has at most 48 pairs. The pairs of both then fit in one leaf, with room
-    /// for one more. Otherwise the sibling gives one of its pairs.
+    /// for one more. Otherwise the sibling gives so many of its pairs that both have as many.
     Early,
 }
 
@@ -147,6 +149,36 @@ fn leaf_sibling<S: NodeStore>(store: &S, id: InnerNodeId, index: usize, most: us
     sibling(store, id, index, Level::Leaf, most)
 }
 
+// Returns how many of its pairs a leaf of `len` pairs gives to a sibling that has 15.
+fn spare_of(len: usize, merging: Merging) -> usize
+    requires { 17 ≤ len }
+    ensures { CanSpare Left result len 15 }
+{
+    match merging {
+        Merging::Late => 1,
+        Merging::Early => (len - (LEAF_MINIMUM - 1)) / 2,
+    }
+}
+
+// Returns how many pairs the giver of two leaves gives to its sibling.
+fn spare_pairs<S: NodeStore>(
+    store: &S,
+    giver: Sibling,
+    left: LeafNodeId,
+    right: LeafNodeId,
+    merging: Merging,
+) -> usize
+    requires left { IsPresent ((S.slots store.now).leaf left.0) }
+    requires right { IsPresent ((S.slots store.now).leaf right.0) }
+    requires spares { HasSparePairs (S.slots store.now) giver left right }
+    ensures { CanSparePairs (S.slots store.now) giver result left right }
+{
+    match giver {
+        Sibling::Left => spare_of(store.get_leaf(left).len(), merging),
+        Sibling::Right => spare_of(store.get_leaf(right).len(), merging),
+    }
+}
+
 // Propagates an inner node's new summary up the path above it. If the node underflowed, it rotates
 // or merges with a sibling, and after a merge the parent may underflow in turn. Returns a summary
 // of all keys.
@@ -203,10 +235,11 @@ fn ascend_underflow<S: NodeStore>(
     }
 }
 
-/// Rebalances a leaf that underflowed, the child at index `index` of the node `id`: it rotates a
-/// pair or merges with its sibling.
+/// Rebalances a leaf that underflowed, the child at index `index` of the node `id`: it rotates
+/// pairs or merges with its sibling.
 ///
-/// `merging` determines up to how many pairs of the sibling the two merge. Nodes on the path above
+/// `merging` determines up to how many pairs of the sibling the two merge, and how many pairs the
+/// sibling gives otherwise. Nodes on the path above
 /// that underflow by a merge are rebalanced in turn. `whole` is the summary that the whole tree had
 /// before. Returns a summary of all keys.
 ///
@@ -230,14 +263,15 @@ pub fn rebalance_leaf<S: NodeStore>(
     let (left, right) = leaves_at(store, id, slot);
     match giver {
         Some(giver) => {
-            let (above, joint) = rotate_leaves_at(store, id, slot, giver, left, right)?;
+            let count = spare_pairs(store, giver, left, right, merging);
+            let (above, joint) = rotate_leaves_at(store, id, slot, giver, count, left, right)?;
             match ascend(store, path, whole, above) {
                 Ok(top) => {
                     statistic.count(Level::Leaf, Rebalanced::Rotated(giver));
                     Ok(top)
                 }
                 Err(refusal) => {
-                    undo_rotate_leaves_at(store, id, slot, giver, joint, left, right);
+                    undo_rotate_leaves_at(store, id, slot, giver, count, joint, left, right);
                     Err(refusal)
                 }
             }

@@ -4,6 +4,7 @@ pub mod OneFewer
 pub mod Removals
 pub mod RemovedLeaf
 pub mod ShrunkRoot
+pub mod Spared
 pub mod Taken
 pub mod TakenOut
 pub mod Withdrawn

@@ -17,7 +17,7 @@ use Rattle.bptree_invariant.specs.Leaves.{IsLeafFor}
 use Rattle.bptree_invariant.specs.NodeTree.{NodeTree}
 use Rattle.bptree_invariant.specs.Path.{Way}
 use Rattle.bptree_search.specs.ByArgument.{GoesOn}
-use Rattle.bptree_invariant.specs.Shape.{leaf_pairs, pairs_at, IsWellShaped}
+use Rattle.bptree_invariant.specs.Shape.{leaf_next, leaf_pairs, leaf_prev, pairs_at, IsWellShaped}
 use Rattle.bptree_rebalancing.specs.Trim.{IsLoose}
 
 -- the leaf at the end of a path has a key at a slot
@@ -93,6 +93,13 @@ module _ {K V A : Type 0} (slots : Slots (Inner K A) (Leaf K V)) (id : LeafNodeI
 
   abbrev pub HasSpare : Type 0
   HasSpare = 16 < length (leaf_pairs (slots.leaf id.0))
+
+-- a leaf has no leaf before it, or behind it, as the flag says; it has more pairs than it needs;
+-- and every value is a summary of every list
+pub record IsSpareEnd {K V A : Type 0} (is_summary : A → List K → Type 0) (slots : Slots (Inner K A) (Leaf K V)) (is_last : Bool) (id : LeafNodeId) : Type 0 where
+  pub none : cond is_last (leaf_next (slots.leaf id.0)) (leaf_prev (slots.leaf id.0)) ≡ None
+  pub spare : 16 < length (leaf_pairs (slots.leaf id.0))
+  pub any : (a : A) (keys : List K) → is_summary a keys
 
 module _ {K V A : Type 0} (cmp : K → K → Ordering) (is_summary : A → List K → Type 0) where
   -- the leaf at the end of a path has a pair at a slot, and a value is a summary of the keys of the

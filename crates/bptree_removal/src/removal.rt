@@ -9,7 +9,7 @@ ghost use Rattle.bptree_propagation.specs.LeafChange.{SumsUpLeafAt};
 ghost use Rattle.bptree_invariant.specs.NodeTree.{IsUntouched, IsWhole};
 ghost use Rattle.bptree_invariant.specs.Shape.{leaf_pairs, IsWellShaped};
 ghost use Rattle.bptree_rebalancing.specs.Trim.{IsLoose};
-ghost use Rattle.bptree_removal.specs.Removal.{IsEntryIn, NoPairIn, HasPair, HasSpare, KeepsPairs, PutsPairBack, RemovesEnd, RemovesKeyFrom, RemovesSelected, TakesAt, TakesOut, TakesPair};
+ghost use Rattle.bptree_removal.specs.Removal.{IsEntryIn, NoPairIn, HasPair, HasSpare, IsSpareEnd, KeepsPairs, PutsPairBack, RemovesEnd, RemovesKeyFrom, RemovesSelected, TakesAt, TakesOut, TakesPair};
 
 use crate::ends::end_path;
 use bptree_arguments::argument::{Argument, SearchArgument};
@@ -251,11 +251,49 @@ pub fn remove_entry<S: NodeStore>(
     }
 }
 
+// Returns the leaf that a path ends at, if that is the first leaf of the tree, or the last one, if
+// the leaf has more pairs than it needs, and if every value is a summary of every list. The path
+// need not be one of this tree: the leaf is tested.
+#[inline(always)]
+fn spare_end<S: NodeStore>(store: &S, path: &VisitStack, end: End) -> Option<LeafNodeId>
+    ensures { IfSome result (IsSpareEnd S.Argument.is_summary (S.slots store.now) (is_back end)) }
+{
+    if !S::Argument::is_zst() {
+        return None;
+    }
+    let (_, _, NodeId::Leaf(id)) = path.last()? else {
+        return None;
+    };
+    let leaf = store.try_get_leaf(id)?;
+    let beside = match end {
+        End::Front => leaf.prev(),
+        End::Back => leaf.next(),
+    };
+    if beside.is_some() || !leaf.can_spare() {
+        return None;
+    }
+    Some(id)
+}
+
+// Removes the pair at an end of the first leaf, or of the last one, as `spare_end` found it. No
+// other node is changed.
+fn take_spare<S: NodeStore>(tree: &mut Nodes<S>, leaf: LeafNodeId, end: End) -> (S::K, S::V)
+    requires { IsSpareEnd S.Argument.is_summary (S.slots tree.old.store) (is_back end) leaf }
+    ensures removed { RemovesEnd tree.old.contents tree.new.contents (is_back end) (Some result) }
+    ensures whole { IsWhole S.K.cmp S.Argument.is_summary S.slots tree.new }
+{
+    let len = tree.store.get_leaf(leaf).len();
+    let pair = take_pair(&mut tree.store, leaf, end_index(len, end));
+    tree.len -= 1;
+    pair
+}
+
 /// Removes the pair at an end of a tree, if there is one, and returns it.
 ///
 /// The descent compares and clones no key. A leaf that underflows merges with its sibling if the
 /// sibling has at most 48 pairs, so a loop over this call seldom rotates. `path` is scratch space,
-/// as for `remove_entry`.
+/// as for `remove_entry`. If no summaries are kept and it still has the path of the last call,
+/// there is no descent, while the leaf has more than 16 pairs.
 ///
 /// O(log n) steps. It allocates what `take_entry` does, and nothing if there is no pair. If an
 /// allocation fails, it returns `Err(AllocError)` and the tree is unchanged.
@@ -272,6 +310,9 @@ pub fn remove_end<S: NodeStore>(
     ensures unchanged { OnErr result (IsUntouched S.slots tree.new tree.old) }
     ensures infallible { NeverFails S.Argument.needs_no_memory S.K.is_infallible result }
 {
+    if let Some(leaf) = spare_end(&tree.store, path, end) {
+        return Ok(Some(take_spare(tree, leaf, end)));
+    }
     path.clear();
     let leaf = end_path(&tree.store, tree.root, tree.height, end, path);
     let len = tree.store.get_leaf(leaf).len();

@@ -212,6 +212,11 @@ module _ {K V A : Type 0} {cmp : K → K → Ordering} (total : IsTotalOrder cmp
       let last : reaches_last cmp (leaf_keys leaf) k ≡ true = rw is (last_reached k p.0 p ps i equal hit.greater) in
       rw (first, last, or-true (is_none leaf.prev), or-true (is_none leaf.next)) refl
 
+  -- a present leaf that has an equal key passes the test for the key
+  pub holds_equal : (k : K) (id : LeafNodeId) (leaf : Leaf K V) (i : ℕ) → slots.leaf id.0 ≡ Present leaf → HasEqualAt cmp leaf.pairs k i → HoldsKey cmp (slots.leaf id.0) k
+  holds_equal k id leaf i here equal =
+      rw here (in_range_of k leaf leaf.pairs i refl (ascends id leaf (present_is_leaf_of total is_summary slots h root shape id leaf here) here) equal)
+
   -- a position of a present leaf that has an equal key is the key's position
   pub equal_at : (k : K) (id : LeafNodeId) (leaf : Leaf K V) (i : ℕ) → slots.leaf id.0 ≡ Present leaf → HasEqualAt cmp leaf.pairs k i → length leaf.pairs ≤ 64 → IsIndexAt cmp slots h root k id (Ok i)
   equal_at k id leaf i here equal fits =

@@ -201,8 +201,8 @@ impl<K: Key> BPlusTreeSet<K> {
 
     /// Removes the least key, and returns it, or `None` if the set is empty.
     ///
-    /// O(log n): one descent, which compares no key. It fails only if a clone of a key fails; then
-    /// the set is unchanged. If the set is empty, it cannot fail.
+    /// O(log n): at most one descent, which compares no key. It fails only if a clone of a key
+    /// fails; then the set is unchanged. If the set is empty, it cannot fail.
     pub fn pop_first(&mut self) -> Result<Option<K>, AllocError>
         ensures ok { IfOk result (λ gone. TakesFirst (λ key. key) self.old gone self.new) }
         ensures empty { self.old ≡ [] → result ≡ Ok None }
@@ -217,8 +217,8 @@ impl<K: Key> BPlusTreeSet<K> {
 
     /// Removes the greatest key, and returns it, or `None` if the set is empty.
     ///
-    /// O(log n): one descent, which compares no key. It fails only if a clone of a key fails; then
-    /// the set is unchanged. If the set is empty, it cannot fail.
+    /// O(log n): at most one descent, which compares no key. It fails only if a clone of a key
+    /// fails; then the set is unchanged. If the set is empty, it cannot fail.
     pub fn pop_last(&mut self) -> Result<Option<K>, AllocError>
         ensures ok { IfOk result (λ gone. TakesLast (λ key. key) self.old gone self.new) }
         ensures empty { self.old ≡ [] → result ≡ Ok None }

@@ -19,6 +19,10 @@ pub fn all() -> Vec<Case> {
         all.push(Case::new(&name("leaves that grow and shrink"), kind, rows));
         all.push(Case::new(&name("what is rebalanced"), kind, rebalanced));
         all.push(Case::new(&name("cleared as new"), kind, as_new));
+        // The program has no pops for trees of counted numbers.
+        if kind != COUNTED {
+            all.push(Case::new(&name("what pops rebalance"), kind, popped));
+        }
     }
     for kind in TREES.into_iter().chain(OTHERS) {
         let name = format!("loaded nodes, {}", Kind(kind).name());
@@ -201,6 +205,30 @@ fn rebalanced(talk: &mut Talk) -> Outcome {
         talk.ask(&gone)?;
         let found = statistic(talk)?;
         check(found == wanted, || format!("{len} leave: {found:?}"))?;
+    }
+    Ok(())
+}
+
+// A load of 120 pairs makes two leaves of 60. The 45th pop makes the leaf at that end underflow. The
+// other leaf has too many pairs to merge, and gives 22, so that they have 37 and 38. The 67th pop
+// makes the two merge.
+fn popped(talk: &mut Talk) -> Outcome {
+    let rows = [
+        (calls::pop_first(), [0, 0, 0, 0, 0, 1, 0, 1]),
+        (calls::pop_last(), [0, 0, 0, 0, 1, 0, 1, 0]),
+    ];
+    for (pop, wanted) in rows {
+        talk.ask(&[calls::load(120, 0)])?;
+        let none = statistic(talk)?;
+        check(none == [0; 8], || format!("120 are loaded: {none:?}"))?;
+        talk.ask(&[pop; 66])?;
+        let given = statistic(talk)?;
+        check(given[6..] == [0, 0] && given[4..6] == wanted[4..6], || {
+            format!("66 of 120 are popped: {given:?}")
+        })?;
+        talk.ask(&[pop; 54])?;
+        let found = statistic(talk)?;
+        check(found == wanted, || format!("120 are popped: {found:?}"))?;
     }
     Ok(())
 }

@@ -114,7 +114,7 @@ fn ranges_removed(many: u64) -> Vec<Step> {
 /// How many pairs a map is loaded with, the word for that, its height after all, and the pairs that
 /// leave: from the back or the front, how many of them quietly, and how many of them behind these are
 /// swept. The first leaf and then the last one get 16 pairs. The next pair that leaves makes two
-/// leaves one if both fit in one, and else the leaf takes a pair from the other.
+/// leaves one if both fit in one, and else the leaf takes half of what the other has more.
 type Pops = (u64, &'static str, u64, &'static [(bool, u64, u64)]);
 
 const POPS: [Pops; 3] = [
@@ -124,7 +124,7 @@ const POPS: [Pops; 3] = [
         4145,
         "many ",
         2,
-        &[(false, 44, 2), (false, 10, 1), (true, 16, 1)],
+        &[(false, 44, 2), (false, 20, 1), (true, 16, 1)],
     ),
 ];
 

@@ -208,8 +208,8 @@ pub fn all(sort: &Sort) -> Vec<Scenario> {
     let walked_end = format!(", walked{}", sort.quiet_summary());
     vec![
         scenario(", full root, high", full_root(253_504, 2)).ending(253_505),
-        scenario(", a rotation, high", high(253_505, 962)).ending(252_540),
-        scenario(", a merge, high", high(253_505, 1921)).ending(251_581),
+        scenario(", a rotation, high", high(253_505, 971)).ending(252_531),
+        scenario(", a merge, high", high(253_505, 1931)).ending(251_571),
         scenario(", full leaf", full_leaf()).ending(65),
         scenario(", full root", full_root(3904, 1)).ending(3905),
         scenario(", emptied", emptied()).ending(0),

@@ -99,8 +99,8 @@ fn new_keys(alloc: Global, keys: &[u64], many: usize) -> Result<Vec<u64>, AllocE
 }
 
 // Inserts the new pairs in one call and removes them in one call, and prints the time for each
-// pair.
-fn insert_many(report: Report<'_>, map: &mut Counted, keys: &[u64]) -> bool {
+// pair. The names are those of the two calls.
+fn insert_many(report: Report<'_>, names: (&str, &str), map: &mut Counted, keys: &[u64]) -> bool {
     let alloc = report.rt.alloc();
     let many = keys.len();
     let Ok(mut removed) = Vec::with_capacity(alloc, many) else {
@@ -111,7 +111,7 @@ fn insert_many(report: Report<'_>, map: &mut Counted, keys: &[u64]) -> bool {
             return false;
         }
     }
-    let clock = report.start("insertmany");
+    let clock = report.start(names.0);
     if map.extend_from_columns(keys, keys).is_err() {
         return false;
     }
@@ -119,10 +119,18 @@ fn insert_many(report: Report<'_>, map: &mut Counted, keys: &[u64]) -> bool {
     if removed.len() != many {
         return false;
     }
-    let clock = report.start("removemany");
+    let clock = report.start(names.1);
     let gone = map.remove_many(keys, &mut removed);
     clock.stop(many, gone as u64);
     true
+}
+
+// Times changes with the new keys in random order, and then in the order of the keys.
+fn change_batches(report: Report<'_>, map: &mut Counted, keys: Vec<u64>) -> bool {
+    let mut keys = keys;
+    insert_many(report, ("insertmany", "removemany"), map, &keys)
+        && keys.sort().is_ok()
+        && insert_many(report, ("insertsorted", "removesorted"), map, &keys)
 }
 
 /// Times calls for many keys at once. Returns whether no call failed.
@@ -138,7 +146,7 @@ pub fn take(report: Report<'_>, numbers: Numbers<'_>) -> bool {
     read_batches(report, "containsmany", &ContainsMany, &map, numbers.others);
     read_batches(report, "rankmany", &RankMany, &map, numbers.others);
     match new_keys(alloc, numbers.others, numbers.keys.len() / 100) {
-        Ok(keys) => insert_many(report, &mut map, &keys),
+        Ok(keys) => change_batches(report, &mut map, keys),
         Err(_) => false,
     }
 }

@@ -70,8 +70,9 @@ impl<S: NodeStore> BPlusTree<S> {
 
     /// Removes the pair with the least key, and returns it, or `None` if the tree is empty.
     ///
-    /// O(log n): one descent, which compares no key. It fails only if a clone of a key or a summary
-    /// fails; then the tree is unchanged, node by node. If the tree is empty, it cannot fail.
+    /// O(log n): at most one descent, which compares no key. It fails only if a clone of a key or a
+    /// summary fails; then the tree is unchanged, node by node. If the tree is empty, it cannot
+    /// fail.
     pub fn pop_first(&mut self) -> Result<Option<(S::K, S::V)>, AllocError>
         ensures ok { IfOk result (PopsFirst self.old.contents self.new.contents) }
         ensures empty { self.old.contents ≡ [] → result ≡ Ok None }
@@ -86,8 +87,9 @@ impl<S: NodeStore> BPlusTree<S> {
 
     /// Removes the pair with the greatest key, and returns it, or `None` if the tree is empty.
     ///
-    /// O(log n): one descent, which compares no key. It fails only if a clone of a key or a summary
-    /// fails; then the tree is unchanged, node by node. If the tree is empty, it cannot fail.
+    /// O(log n): at most one descent, which compares no key. It fails only if a clone of a key or a
+    /// summary fails; then the tree is unchanged, node by node. If the tree is empty, it cannot
+    /// fail.
     pub fn pop_last(&mut self) -> Result<Option<(S::K, S::V)>, AllocError>
         ensures ok { IfOk result (PopsLast self.old.contents self.new.contents) }
         ensures empty { self.old.contents ≡ [] → result ≡ Ok None }

@@ -331,6 +331,35 @@ fn returns_what_it_took<K: Drop, V: Drop>(leaf: &mut LeafNode<K, V>, right: &mut
     leaf.move_tail_to(kept, right);
 }
 
+// Pairs that move to the leaf behind and back leave both leaves as they were.
+fn returns_what_it_was_given<K: Drop, V: Drop>(
+    left: &mut LeafNode<K, V>,
+    right: &mut LeafNode<K, V>,
+    count: usize,
+)
+    requires within { count ≤ length left.old.pairs }
+    requires room { length right.old.pairs + count ≤ 64 }
+    ensures { (left.new ≡ left.old) × (right.new ≡ right.old) }
+{
+    left.recall();
+    left.move_last_to(count, right);
+    right.move_first_to(count, left);
+}
+
+// The first pair of a leaf moves behind the last one of the leaf before it.
+fn gives_its_first<K: Drop, V: Drop>(
+    left: &mut LeafNode<K, V>,
+    right: &mut LeafNode<K, V>,
+) -> (K, V)
+    requires some { 0 < length right.old.pairs }
+    requires room { length left.old.pairs < 64 }
+    ensures pair { right.old.pairs ≡ result ∷ right.new.pairs }
+    ensures left { left.new ≡ left.old }
+{
+    right.move_first_to(1, left);
+    left.pop()
+}
+
 // A clone has the same links, and clones of the pairs in their order.
 fn clones_pairs_and_links<K: Clone + Drop, V: Clone + Drop>(
     leaf: &LeafNode<K, V>,

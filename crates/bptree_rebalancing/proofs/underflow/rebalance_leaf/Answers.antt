@@ -1,4 +1,4 @@
-use Rattle.std.proofs.Common.{◌∙◌, length, sym, ap, arith}
+use Rattle.std.proofs.Common.{◌∙◌, length, sym, ap}
 use Rattle.bptree_invariant.specs.Shape.{leaf_pairs}
 use Rattle.bptree_rebalancing.proofs.LeafSpot as spot
 use Rattle.bptree_rebalancing.proofs.ClimbingLeaf as climb
@@ -20,6 +20,15 @@ leaves_at-requires-clause-children g c = spot.leaves_there g.met.S.K.Ord.total c
 pub leaves_at-requires-clause-slot : goal.leaves_at-requires-clause-slot
 leaves_at-requires-clause-slot g c = (spot.node_there g.met.S.K.Ord.total c.requires.0, spot.slot_there g.met.S.K.Ord.total c.requires.0 c.leaf_sibling-slot.result.0 c.leaf_sibling-slot.result.1 c.leaf_sibling-slot.ensures, spot.fits_there g.met.S.K.Ord.total c.requires.0)
 
+pub spare_pairs-count-requires-clause-left : goal.spare_pairs-count-requires-clause-left
+spare_pairs-count-requires-clause-left g c = (spot.left_there g.met.S.K.Ord.total c.requires.0 c.leaf_sibling-slot.result.0 c.leaves_at.result.0 c.leaves_at.result.1 c.leaves_at.ensures.left c.leaves_at.ensures.right).0
+
+pub spare_pairs-count-requires-clause-right : goal.spare_pairs-count-requires-clause-right
+spare_pairs-count-requires-clause-right g c = (spot.right_there g.met.S.K.Ord.total c.requires.0 c.leaf_sibling-slot.result.0 c.leaves_at.result.0 c.leaves_at.result.1 c.leaves_at.ensures.left c.leaves_at.ensures.right).0
+
+pub spare_pairs-count-requires-clause-spares : goal.spare_pairs-count-requires-clause-spares
+spare_pairs-count-requires-clause-spares g c = spot.spares_there g.met.S.K.Ord.total c.requires.0 c.leaf_sibling-slot.result.0 c.leaves_at.result.0 c.leaves_at.result.1 c.leaves_at.ensures.left c.leaves_at.ensures.right c.in-Some.giver (rw c.in-Some.is at c.leaf_sibling-slot.ensures)
+
 pub rotate_leaves_at-requires-clause-index : goal.rotate_leaves_at-requires-clause-index
 rotate_leaves_at-requires-clause-index g c = spot.entry_there g.met.S.K.Ord.total c.requires.0 c.leaf_sibling-slot.result.0 c.leaf_sibling-slot.result.1 c.leaf_sibling-slot.ensures
 
@@ -33,10 +42,7 @@ pub rotate_leaves_at-requires-clause-right : goal.rotate_leaves_at-requires-clau
 rotate_leaves_at-requires-clause-right g c = (spot.right_there g.met.S.K.Ord.total c.requires.0 c.leaf_sibling-slot.result.0 c.leaves_at.result.0 c.leaves_at.result.1 c.leaves_at.ensures.left c.leaves_at.ensures.right).0
 
 pub rotate_leaves_at-requires-clause-rotates : goal.rotate_leaves_at-requires-clause-rotates
-rotate_leaves_at-requires-clause-rotates g c = spot.rotates_there g.met.S.K.Ord.total c.requires.0 c.leaf_sibling-slot.result.0 c.leaves_at.result.0 c.leaves_at.result.1 c.leaves_at.ensures.left c.leaves_at.ensures.right c.in-Some.giver (rw c.in-Some.is at c.leaf_sibling-slot.ensures)
-
-pub rotate_leaves_at-requires-clause-some : goal.rotate_leaves_at-requires-clause-some
-rotate_leaves_at-requires-clause-some g c = omega (arith, (spot.right_there g.met.S.K.Ord.total c.requires.0 c.leaf_sibling-slot.result.0 c.leaves_at.result.0 c.leaves_at.result.1 c.leaves_at.ensures.left c.leaves_at.ensures.right).1)
+rotate_leaves_at-requires-clause-rotates g c = spot.rotates_there g.met.S.K.Ord.total c.requires.0 c.leaf_sibling-slot.result.0 c.leaves_at.result.0 c.leaves_at.result.1 c.leaves_at.ensures.left c.leaves_at.ensures.right c.in-Some.giver c.spare_pairs-count.result (rw c.in-Some.is at c.leaf_sibling-slot.ensures) c.spare_pairs-count.ensures
 
 pub rotate_leaves_at-requires-clause-apart : goal.rotate_leaves_at-requires-clause-apart
 rotate_leaves_at-requires-clause-apart g c = spot.apart_there g.met.S.K.Ord.total c.requires.0 c.leaf_sibling-slot.result.0 c.leaves_at.result.0 c.leaves_at.result.1 c.leaves_at.ensures.left c.leaves_at.ensures.right
@@ -56,7 +62,7 @@ merge_leaves_at-requires-clause-apart g c = spot.apart_there g.met.S.K.Ord.total
 pub ascend-requires : goal.ascend-requires
 ascend-requires g c =
     let done = c.in_ok-above-in-Some in
-    record { climbs = climb.rotated g.met.S.K.Ord.total c.requires.0 c.leaf_sibling-slot.result.0 c.leaf_sibling-slot.result.1 c.leaf_sibling-slot.ensures c.leaves_at.result.0 c.leaves_at.result.1 c.leaves_at.ensures.left c.leaves_at.ensures.right done.joint c.in-Some.giver c.in-Some.is done.ensures.rotates done.above done.ensures.sums; had = c.requires.1 }
+    record { climbs = climb.rotated g.met.S.K.Ord.total c.requires.0 c.leaf_sibling-slot.result.0 c.leaf_sibling-slot.result.1 c.leaf_sibling-slot.ensures c.leaves_at.result.0 c.leaves_at.result.1 c.leaves_at.ensures.left c.leaves_at.ensures.right done.joint c.in-Some.giver c.spare_pairs-count.result c.spare_pairs-count.ensures done.ensures.rotates done.above done.ensures.sums; had = c.requires.1 }
 
 pub get_leaf-requires : goal.get_leaf-requires
 get_leaf-requires g c = (spot.left_there g.met.S.K.Ord.total c.requires.0 c.leaf_sibling-slot.result.0 c.leaves_at.result.0 c.leaves_at.result.1 c.leaves_at.ensures.left c.leaves_at.ensures.right).0
@@ -94,8 +100,8 @@ undo_merge_leaves_at-requires g c = (
 pub returns-in-Ok-clause-trims : goal.returns-in-Ok-clause-trims
 returns-in-Ok-clause-trims g c short =
     let done = c.in_ok-above-in-Some in
-    climb.rotated_trims g.met.S.K.Ord.total short.0 c.leaf_sibling-slot.result.0 c.leaf_sibling-slot.result.1 c.leaf_sibling-slot.ensures c.leaves_at.result.0 c.leaves_at.result.1 c.leaves_at.ensures.left c.leaves_at.ensures.right done.joint c.in-Some.giver c.in-Some.is done.ensures.rotates done.above done.ensures.sums (g.S.NodeStore.slots c.ascend.new.store) c.in-Ok.top
-    (c.in-Ok.ensures.rises (record { climbs = climb.rotated g.met.S.K.Ord.total short.0 c.leaf_sibling-slot.result.0 c.leaf_sibling-slot.result.1 c.leaf_sibling-slot.ensures c.leaves_at.result.0 c.leaves_at.result.1 c.leaves_at.ensures.left c.leaves_at.ensures.right done.joint c.in-Some.giver c.in-Some.is done.ensures.rotates done.above done.ensures.sums; had = short.1 }))
+    climb.rotated_trims g.met.S.K.Ord.total short.0 c.leaf_sibling-slot.result.0 c.leaf_sibling-slot.result.1 c.leaf_sibling-slot.ensures c.leaves_at.result.0 c.leaves_at.result.1 c.leaves_at.ensures.left c.leaves_at.ensures.right done.joint c.in-Some.giver c.spare_pairs-count.result c.spare_pairs-count.ensures done.ensures.rotates done.above done.ensures.sums (g.S.NodeStore.slots c.ascend.new.store) c.in-Ok.top
+    (c.in-Ok.ensures.rises (record { climbs = climb.rotated g.met.S.K.Ord.total short.0 c.leaf_sibling-slot.result.0 c.leaf_sibling-slot.result.1 c.leaf_sibling-slot.ensures c.leaves_at.result.0 c.leaves_at.result.1 c.leaves_at.ensures.left c.leaves_at.ensures.right done.joint c.in-Some.giver c.spare_pairs-count.result c.spare_pairs-count.ensures done.ensures.rotates done.above done.ensures.sums; had = short.1 }))
 
 pub returns-in-Ok-ascend_underflow-clause-trims : goal.returns-in-Ok-ascend_underflow-clause-trims
 returns-in-Ok-ascend_underflow-clause-trims g c short =

@@ -1,7 +1,13 @@
-use Rattle.std.proofs.Common.{refl, arith, ap, length}
+use Rattle.std.proofs.Common.{◌≡◌, ◌-◌, refl, arith, ap, length}
 use Rattle.std.proofs.lemmas.List.Edits.{length-remove}
-use Rattle.bptree_nodes.proofs.Pairs.{length_pairs, pair_at, remove_pair}
+use Rattle.bptree_nodes.proofs.Pairs.{last_apart, length_pairs, pair_at, remove_pair}
 use Rattle.bptree_nodes.proofs.leaf_node.LeafNode.delete_at.Goals as goal
+
+pub returns-then-len-slot-eq1-clause-pair : goal.returns-then-len-slot-eq1-clause-pair
+returns-then-len-slot-eq1-clause-pair g c =
+    let pairs = c.args.self.now.pairs in
+    let last : c.args.slot ≡ length pairs - 1 = omega (arith, c.len.ensures.value, c.if-len-slot-eq1.true, c.requires) in
+    rw last (last_apart pairs c.pop.new.self.pairs c.pop.result c.pop.ensures.pair).0
 
 pub returns-clause-pair : goal.returns-clause-pair
 returns-clause-pair g c =
