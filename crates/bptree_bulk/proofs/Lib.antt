@@ -13,6 +13,7 @@ pub mod Segments
 pub mod SidePlans
 pub mod Sides
 pub mod Skips
+pub mod Steps
 pub mod Summed
 pub mod Tails
 pub mod Weaves

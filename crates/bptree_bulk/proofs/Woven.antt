@@ -16,8 +16,6 @@ use Rattle.bptree_invariant.proofs.Spot.{ascending_before}
 
 -- so many of the steps lead from two lists to what the other steps take
 pub record IsUnderway {K V : Type 0} (cmp : K → K → Ordering) (steps : List Source) (A B : List (K × V)) (n : ℕ) (a b : List (K × V)) : Type 0 where
-  pub up : IsAscending cmp A
-  pub up' : IsAscending cmp B
   pub goes : Goes cmp (take n steps) A B a b
   pub rest : Weaves cmp (drop n steps) a b
 
@@ -25,7 +23,7 @@ module _ {K V : Type 0} {cmp : K → K → Ordering} (total : IsTotalOrder cmp) 
   all_steps : Weaves cmp steps A B
   all_steps = subst (λ l. Goes cmp l A B [] []) (take-append-drop n steps) (goes_joined cmp (take n steps) (drop n steps) A B a b [] [] way.goes way.rest)
 
-  rest_length : length (woven (drop n steps) a b) ≡ length steps - n
+  pub rest_length : length (woven (drop n steps) a b) ≡ length steps - n
   rest_length = woven_length cmp (drop n steps) a b [] [] way.rest ∙ length-drop n steps
 
   module _ (size : ℕ) (fits : n + size ≤ length steps) {own : List Source} (is : own ≡ take size (drop n steps)) where
@@ -48,11 +46,11 @@ module _ {K V : Type 0} {cmp : K → K → Ordering} (total : IsTotalOrder cmp) 
     pub own_leads : (to : List (K × V) × List (K × V)) × Goes cmp own a b to.0 to.1
     own_leads = ((apart.first, apart.second), apart.goes)
 
-    -- the pairs of the part ascend
-    pub own_ascends : IsAscending cmp (woven own a b)
-    own_ascends =
+    -- the pairs of the part ascend if those of both lists do
+    pub own_ascends : IsAscending cmp A → IsAscending cmp B → IsAscending cmp (woven own a b)
+    own_ascends up up' =
         let whole = ap (λ l. woven l A B) (sym (take-append-drop n steps)) ∙ woven_joined cmp (take n steps) (drop n steps) A B a b way.goes in
-        let behind = ascending_after total (woven (take n steps) A B) (woven (drop n steps) a b) (subst (IsAscending cmp) whole (woven_ascends cmp total steps A B way.up way.up' all_steps)) in
+        let behind = ascending_after total (woven (take n steps) A B) (woven (drop n steps) a b) (subst (IsAscending cmp) whole (woven_ascends cmp total steps A B up up' all_steps)) in
         ascending_before cmp (woven own a b) (woven later apart.first apart.second) (subst (IsAscending cmp) (rest_is apart.first apart.second apart.goes) behind)
 
     module _ (x y : List (K × V)) (on : Goes cmp own a b x y) where
@@ -64,12 +62,19 @@ module _ {K V : Type 0} {cmp : K → K → Ordering} (total : IsTotalOrder cmp) 
           let same = goes_same cmp own a b apart.first apart.second x y apart.goes on in
           subst (λ l. Goes cmp later l y [] []) same.0 (subst (λ l. Goes cmp later apart.first l [] []) same.1 apart.later)
 
+      long : length (woven own a b) ≡ size
+      long = woven_length cmp own a b x y on ∙ own_length
+
+      -- the pairs of the part are the next ones
+      pub part_is : take size (woven (drop n steps) a b) ≡ woven own a b
+      part_is = ap (take size) (rest_is x y on) ∙ (ap (λ k. take k (woven own a b ++ woven later x y)) (sym long) ∙ take-append_seam (woven own a b) (woven later x y))
+
+      -- the others are behind them
+      pub behind_is : drop size (woven (drop n steps) a b) ≡ woven later x y
+      behind_is = ap (drop size) (rest_is x y on) ∙ (ap (λ k. drop k (woven own a b ++ woven later x y)) (sym long) ∙ drop-append_seam (woven own a b) (woven later x y))
+
       -- one part more
       pub part_on : (parts : List (List (K × V))) → IsSize (length steps - n) size → n < length steps → AreParts (woven steps A B) parts (woven (drop n steps) a b) → AreParts (woven steps A B) (parts ++ woven own a b ∷ []) (woven later x y)
       part_on parts sized some are =
-          let long : length (woven own a b) ≡ size = woven_length cmp own a b x y on ∙ own_length in
-          let all = rest_is x y on in
-          let first : take size (woven (drop n steps) a b) ≡ woven own a b = ap (take size) all ∙ (ap (λ k. take k (woven own a b ++ woven later x y)) (sym long) ∙ take-append_seam (woven own a b) (woven later x y)) in
-          let behind : drop size (woven (drop n steps) a b) ≡ woven later x y = ap (drop size) all ∙ (ap (λ k. drop k (woven own a b ++ woven later x y)) (sym long) ∙ drop-append_seam (woven own a b) (woven later x y)) in
           let more = parts_more (woven steps A B) parts (woven (drop n steps) a b) size are (subst (λ k. IsSize k size) (sym rest_length) sized) (omega (arith, rest_length, some)) in
-          subst (λ p. AreParts (woven steps A B) (parts ++ p ∷ []) (woven later x y)) first (subst (AreParts (woven steps A B) (parts ++ take size (woven (drop n steps) a b) ∷ [])) behind more)
+          subst (λ p. AreParts (woven steps A B) (parts ++ p ∷ []) (woven later x y)) part_is (subst (AreParts (woven steps A B) (parts ++ take size (woven (drop n steps) a b) ∷ [])) behind_is more)

@@ -1,14 +1,18 @@
 -- Two lists of pairs that become one, step by step.
-use Rattle.std.specs.Prelude.{◌≡◌, ℕ, ◌+◌, Option, Some, None, List, [], ◌∷◌, ◌++◌, length, take, drop}
+use Rattle.std.specs.Prelude.{◌≡◌, ℕ, ◌+◌, ◌<◌, ◌≤◌, Option, Some, None, List, [], ◌∷◌, ◌++◌, length, take, drop, vec_capacity}
+use Rattle.std.specs.List.{AllByRecursion}
+use Rattle.std.specs.Map.{keys_of}
 use Rattle.std.specs.declared.cmp.Ordering.{Ordering}
 use Rattle.std.specs.declared.vec.Vec.{Vec}
 use Rattle.std.specs.declared.cmp.Ordering.TheVariants.{Less, Equal, Greater}
-use Rattle.bptree_bulk.specs.Filling.{IsFilling}
+use Rattle.bptree_bulk_load.specs.Rooms.{IsFrame}
+use Rattle.bptree_bulk.specs.Filling.{AreParts, IsEmptyLeaf}
 use Rattle.bptree_bulk.specs.Split.{HasLeavesFor}
 use Rattle.bptree_bulk.specs.declared.weaving.Source.{Source}
 use Rattle.bptree_bulk.specs.declared.weaving.Source.TheVariants.{First, Second, Both}
+use Rattle.bptree_bulk.specs.declared.weaving.Rooms.{Rooms}
 use Rattle.bptree_bulk.specs.declared.weaving.Weave.{Weave}
-use Rattle.bptree_keys.specs.Contents.{put}
+use Rattle.bptree_keys.specs.Contents.{put, IsAscending}
 use Rattle.bptree_nodes.specs.Inner.{Inner}
 use Rattle.bptree_nodes.specs.Leaf.{Leaf}
 use Rattle.bptree_nodes.specs.Slot.{Slots}
@@ -93,7 +97,20 @@ module _ {K V : Type 0} where
   abbrev pub Weaves : (K → K → Ordering) → List Source → List (K × V) → List (K × V) → Type 0
   Weaves cmp steps a b = Goes cmp steps a b [] []
 
+module _ {K V : Type 0} where
+  -- the keys are those of the first pairs of a list, of one at least if it has a pair
+  pub record AreFirstKeys (keys : List K) (l : List (K × V)) : Type 0 where
+    pub are : keys ≡ keys_of (take (length keys) l)
+    pub within : length keys ≤ length l
+    pub some : 0 < length l → 0 < length keys
+
 module _ {K V : Type 0} (cmp : K → K → Ordering) where
+  -- further steps come behind others, and lead from two lists to two others
+  pub record AddsSteps (old new : List Source) (a b a' b' : List (K × V)) : Type 0 where
+    pub more : List Source
+    pub added : new ≡ old ++ more
+    pub goes : Goes cmp more a b a' b'
+
   -- the steps lead from two lists to some rest of both
   abbrev pub WeaveLeadsOn : List Source → List (K × V) → List (K × V) → Type 0
   WeaveLeadsOn steps a b = (to : List (K × V) × List (K × V)) × Goes cmp steps a b to.0 to.1
@@ -103,9 +120,21 @@ module _ {S K V A : Type 0} (first second : NodeTree S K V A) where
   abbrev pub WeavesAll : {Z : Type 0} → (K → K → Ordering) → Vec Source Z → Type 0
   WeavesAll cmp steps = Weaves cmp steps.items first.contents second.contents
 
+-- two empty leaves, with room for two more, and an empty leaf in place of one of each tree
+pub record AreRooms {K V : Type 0} (rooms : Rooms K V) : Type 0 where
+  pub two : length rooms.spare.items ≡ 2
+  pub empty : AllByRecursion IsEmptyLeaf rooms.spare.items
+  pub capacity : 4 ≤ vec_capacity rooms.spare
+  pub first : rooms.first.value.pairs ≡ []
+  pub second : rooms.second.value.pairs ≡ []
+
 module _ {S K V A : Type 0} (slots : S → Slots (Inner K A) (Leaf K V)) (first second : NodeTree S K V A) where
   -- everything is ready to make one tree of both
   pub record IsWeave (cmp : K → K → Ordering) (is_summary : A → List K → Type 0) (weave : Weave S K V A) : Type 0 where
     pub weaves : Weaves cmp weave.steps.items first.contents second.contents
-    pub fills : IsFilling cmp is_summary slots weave.filling (woven weave.steps.items first.contents second.contents)
-    pub room : HasLeavesFor (length weave.steps.items) weave.filling.pairs
+    pub parts : List (List (K × V))
+    pub are : AreParts (woven weave.steps.items first.contents second.contents) parts []
+    pub framed : IsFrame cmp is_summary (slots weave.frame.store) weave.frame.ids.items weave.frame.built parts
+    pub ascending : IsAscending cmp (woven weave.steps.items first.contents second.contents)
+    pub leaves : HasLeavesFor (length parts) weave.leaves
+    pub rooms : AreRooms weave.rooms

@@ -4,6 +4,7 @@ ghost use Rattle.std.specs.Map.{keys_of};
 ghost use Rattle.std.specs.Option.{option_copied};
 ghost use Rattle.bptree_bulk.specs.Cut.{first_key};
 ghost use Rattle.bptree_bulk.specs.Positions.{index_of_position, rest_of, IsAtPair, IsLeafOfPosition};
+ghost use Rattle.bptree_bulk.specs.Weave.{AreFirstKeys};
 
 use crate::tail::start_of;
 use bptree_invariant::nodes::Nodes;
@@ -68,6 +69,22 @@ fn key_slice_in<'a, S: NodeStore>(
 {
     tree.recall();
     &leaf.keys()[at.slot..at.slot + 1]
+}
+
+// The keys of the pairs from a position on, up to the end of its leaf.
+#[inline(always)]
+fn keys_in<'a, S: NodeStore>(
+    tree: &'a Nodes<S>,
+    leaf: &'a LeafNode<S::K, S::V>,
+    at: Position,
+) -> &'a [S::K]
+    requires at { IsAtPair S.slots tree.now at }
+    requires leaf { IsLeafOfPosition S.slots tree.now at leaf.now }
+    ensures keys { AreFirstKeys result.now (rest_of S.slots tree.now at) }
+    ensures few { length result.now ≤ 64 }
+{
+    tree.recall();
+    &leaf.keys()[at.slot..]
 }
 
 // The position behind the pair at a position, with its leaf.
@@ -158,6 +175,18 @@ impl<'a, S: NodeStore> Ahead<'a, S> {
         ensures { result.now ≡ keys_of (take 1 self.now) }
     {
         key_slice_in(self.tree, self.leaf, self.at)
+    }
+
+    /// The keys of the first of the pairs, up to the end of its leaf. The slice is empty if no pair
+    /// is left.
+    ///
+    /// O(1). It allocates nothing and cannot fail.
+    #[inline(always)]
+    pub(crate) fn keys(&self) -> &'a [S::K]
+        ensures keys { AreFirstKeys result.now self.now }
+        ensures few { length result.now ≤ 64 }
+    {
+        keys_in(self.tree, self.leaf, self.at)
     }
 
     /// Leaves out the first of the pairs.

@@ -179,7 +179,9 @@ pub(crate) fn fill_pieces<K: Key, V: Drop>(
 }
 
 /// The number of pairs of some leaves.
-pub(crate) fn pairs_in<K: Key, V: Drop>(leaves: &[Box<LeafNode<K, V>>]) -> usize
+///
+/// O(n / 32) for n pairs. It allocates nothing and cannot fail.
+pub fn pairs_in<K: Key, V: Drop>(leaves: &[Box<LeafNode<K, V>>]) -> usize
     requires { length (joined (parts_of leaves.now)) < 2 ^ 64 }
     ensures { result ≡ length (joined (parts_of leaves.now)) }
 {

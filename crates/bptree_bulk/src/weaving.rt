@@ -1,19 +1,20 @@
 //! Two trees whose pairs are merged into one tree.
-ghost use Rattle.std.specs.Prelude.{◌≡◌, ◌+◌, ◌<◌, ◌≤◌, ◌^◌, ◌∷◌, [], length, vec_capacity, IfOk, List, OnOk, Some};
+ghost use Rattle.std.specs.Prelude.{◌≡◌, ◌+◌, ◌<◌, ◌≤◌, ◌^◌, ◌∷◌, [], length, vec_capacity, vec_len, IfOk, List, OnOk, Some};
 ghost use Rattle.std.specs.Map.{keys_of};
 ghost use Rattle.bptree_bulk_load.specs.Plans.{AddsParts};
-ghost use Rattle.bptree_bulk.specs.Weave.{first_rest, first_count, next_source, second_rest, second_count, source_by, step_pair, takes_first, takes_second, woven, Goes, IsWeave, WeaveLeadsOn, WeavesAll};
+ghost use Rattle.bptree_bulk.specs.Weave.{first_rest, first_count, next_source, second_rest, second_count, source_by, step_pair, takes_first, takes_second, woven, AddsSteps, AreRooms, Goes, IsWeave, WeaveLeadsOn, WeavesAll};
 ghost use Rattle.bptree_keys.specs.Contents.{IsAscending};
 
 use crate::ahead::Ahead;
-use crate::filling::{Filling, filling_of, size_of};
+use crate::filling::size_of;
 use bptree_arguments::argument::Argument;
-use bptree_bulk_load::plan::{Plan, empty_plan, plan_part};
+use bptree_bulk_load::plan::{Plan, empty_plan, frame, plan_part};
+use bptree_bulk_load::planting::Frame;
 use bptree_invariant::nodes::Nodes;
 use bptree_keys::key::Key;
 use bptree_nodes::leaf_node::{LEAF_CAPACITY, LeafNode};
 use bptree_stores::node_stores::NodeStore;
-use std::alloc::AllocError;
+use std::alloc::{AllocError, Global};
 use std::cmp::Ordering;
 
 /// The tree, of two, that the next pair of both comes from.
@@ -27,12 +28,49 @@ pub enum Source {
     Both,
 }
 
+/// The empty leaves that pairs move to first. Later ones move to the leaves that they empty.
+#[derive(Drop)]
+pub struct Rooms<K, V> {
+    /// Two leaves, and room for as many more in the list.
+    pub spare: Vec<Box<LeafNode<K, V>>>,
+    /// A leaf in place of one of the first tree.
+    pub first: Box<LeafNode<K, V>>,
+    /// A leaf in place of one of the second tree.
+    pub second: Box<LeafNode<K, V>>,
+}
+
 /// Everything that is prepared before two trees become one. Dropping it leaves both as they were.
 #[derive(Drop)]
 pub struct Weave<S: NodeStore> {
     /// The source of each pair, in the order of their keys.
     pub steps: Vec<Source>,
-    pub filling: Filling<S>,
+    /// The nodes above the leaves of the new tree.
+    pub frame: Frame<S>,
+    /// The room for the list of these leaves.
+    pub leaves: Vec<Box<LeafNode<S::K, S::V>>>,
+    /// The empty leaves.
+    pub rooms: Rooms<S::K, S::V>,
+}
+
+/// The number of empty leaves that are kept for later pairs.
+pub const SPARE_LEAVES: usize = 4;
+
+impl<K: Key, V: Drop> Rooms<K, V> {
+    // Allocates the leaves. O(1). It fails only if an allocation fails.
+    fn new(alloc: Global) -> Result<Self, AllocError>
+        ensures { IfOk result AreRooms }
+    {
+        let mut spare = Vec::with_capacity(alloc, SPARE_LEAVES)?;
+        spare.push_reserved(LeafNode::new(alloc)?);
+        spare.push_reserved(LeafNode::new(alloc)?);
+        let first = LeafNode::new(alloc)?;
+        let second = LeafNode::new(alloc)?;
+        Ok(Rooms {
+            spare,
+            first,
+            second,
+        })
+    }
 }
 
 // The source of the next pair, by the order of both next keys.
@@ -94,6 +132,36 @@ fn next_key<'a, S: NodeStore>(
     }
 }
 
+// Adds the source of each next pair, up to the end of the first leaf of either tree, and leaves
+// these pairs out.
+//
+// Which key is smaller is hard to predict, so no branch depends on it.
+fn take_steps<S: NodeStore>(
+    first: &mut Ahead<'_, S>,
+    second: &mut Ahead<'_, S>,
+    steps: &mut Vec<Source>,
+)
+    requires first { 0 < length first.old }
+    requires second { 0 < length second.old }
+    requires room { vec_len steps.old + (length first.old + length second.old) ≤ vec_capacity steps.old }
+    ensures room { vec_len steps.new + (length first.new + length second.new) ≤ vec_capacity steps.new }
+    ensures added { AddsSteps S.K.cmp steps.old.items steps.new.items first.old second.old first.new second.new }
+    ensures fewer { length first.new + length second.new < length first.old + length second.old }
+{
+    let one = first.keys();
+    let other = second.keys();
+    let mut i = 0;
+    let mut j = 0;
+    'steps: while i < one.len() && j < other.len() {
+        let source = source_of(&one[i], &other[j]);
+        steps.push_reserved(source);
+        i += usize::from(takes_first(source));
+        j += usize::from(takes_second(source));
+    }
+    first.skip(i);
+    second.skip(j);
+}
+
 // The source of each pair of two trees, in the order of their keys.
 fn steps_of<S: NodeStore>(first: &Nodes<S>, second: &Nodes<S>) -> Result<Vec<Source>, AllocError>
     requires { length first.now.contents + length second.now.contents < 2 ^ 64 }
@@ -103,6 +171,9 @@ fn steps_of<S: NodeStore>(first: &Nodes<S>, second: &Nodes<S>) -> Result<Vec<Sou
     let mut steps = Vec::with_capacity(alloc, first.len() + second.len())?;
     let mut ones = Ahead::all(first);
     let mut others = Ahead::all(second);
+    'leaves: while !ones.keys().is_empty() && !others.keys().is_empty() {
+        take_steps(&mut ones, &mut others, &mut steps);
+    }
     'steps: while let Some(source) = source_at(&ones, &others) {
         steps.push_reserved(source);
         step_over(&mut ones, &mut others, source);
@@ -112,7 +183,7 @@ fn steps_of<S: NodeStore>(first: &Nodes<S>, second: &Nodes<S>) -> Result<Vec<Sou
 
 // How many pairs of the first tree a step takes.
 #[inline(always)]
-fn takes_first(source: Source) -> usize
+fn takes_first(source: Source) -> u8
     ensures value { result ≡ takes_first source }
     ensures most { result ≤ 1 }
 {
@@ -124,7 +195,7 @@ fn takes_first(source: Source) -> usize
 
 // How many pairs of the second tree a step takes.
 #[inline(always)]
-fn takes_second(source: Source) -> usize
+fn takes_second(source: Source) -> u8
     ensures value { result ≡ takes_second source }
     ensures most { result ≤ 1 }
 {
@@ -134,20 +205,22 @@ fn takes_second(source: Source) -> usize
     }
 }
 
-// How many pairs of the first tree the steps take, and of the second.
+// How many pairs of the first tree the steps take, and of the second. The counts are bytes, so that
+// the compiled code adds many steps at once.
 fn takes_of(steps: &[Source]) -> (usize, usize)
+    requires { length steps.now ≤ 64 }
     ensures first { result.0 ≡ first_count steps.now }
     ensures second { result.1 ≡ second_count steps.now }
 {
-    let mut ones = 0usize;
-    let mut others = 0usize;
+    let mut ones = 0u8;
+    let mut others = 0u8;
     let mut i = 0;
     'steps: while i < steps.len() {
         ones += takes_first(steps[i]);
         others += takes_second(steps[i]);
         i += 1;
     }
-    (ones, others)
+    (usize::from(ones), usize::from(others))
 }
 
 // Does what `plan_steps` does, if every value is a summary of every list. It only counts the steps.
@@ -208,9 +281,9 @@ fn plan_steps<S: NodeStore>(
 
 /// Prepares all that is needed to make one tree of two.
 ///
-/// O(n) comparisons for n pairs of both. For each new leaf it clones a key, and it computes a
-/// summary of each key and of the keys of each leaf. It fails if one of these or an allocation
-/// fails.
+/// O(n) comparisons for n pairs of both. For each new leaf it clones a key, and, if there are
+/// summaries, it computes one of each key and one of the keys of each leaf. It allocates the nodes
+/// above the leaves, four leaves, and lists. It fails if one of these fails.
 pub fn plan_weave<S: NodeStore>(first: &Nodes<S>, second: &Nodes<S>) -> Result<Weave<S>, AllocError>
     requires some { 0 < length first.now.contents }
     requires few { length first.now.contents + length second.now.contents < 2 ^ 64 }
@@ -221,19 +294,25 @@ pub fn plan_weave<S: NodeStore>(first: &Nodes<S>, second: &Nodes<S>) -> Result<W
     let alloc = first.store.allocator();
     let steps = steps_of(first, second)?;
     let mut plan = empty_plan(S::empty(alloc));
-    let mut rooms = Vec::new(alloc);
     let mut sums = Vec::with_capacity(alloc, LEAF_CAPACITY)?;
     let mut ones = Ahead::all(first);
     let mut others = Ahead::all(second);
     let mut done = 0;
+    let mut count = 0;
     'parts: while done < steps.len() {
         let size = size_of(steps.len() - done);
         let part = &steps[done..done + size];
         plan_steps(&mut plan, &mut ones, &mut others, part, &mut sums)?;
-        let room = LeafNode::new(alloc)?;
-        rooms.push(room)?;
+        count += 1;
         done += size;
     }
-    let filling = filling_of(plan, rooms, steps.len())?;
-    Ok(Weave { steps, filling })
+    let leaves = Vec::with_capacity(alloc, count)?;
+    let rooms = Rooms::new(alloc)?;
+    let frame = frame(plan)?;
+    Ok(Weave {
+        steps,
+        frame,
+        leaves,
+        rooms,
+    })
 }

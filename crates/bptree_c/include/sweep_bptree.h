@@ -11,8 +11,8 @@
 #include <stddef.h>
 #include <stdint.h>
 
-#define SWEEP_BPTREE_VERSION "0.10.2"
-#define SWEEP_BPTREE_VERSION_NUMBER 10002
+#define SWEEP_BPTREE_VERSION "0.10.3"
+#define SWEEP_BPTREE_VERSION_NUMBER 10003
 
 #ifdef __cplusplus
 extern "C" {

@@ -1,14 +1,17 @@
 -- The pairs that a closure keeps whose calls return what a test says.
-use Rattle.std.proofs.Common.{◌≡◌, ◌∙◌, Bool, cond, filter, map, List, [], ◌∷◌}
+use Rattle.std.proofs.Common.{◌≡◌, ◌∙◌, ap, Bool, cond, Option, Some, None, filter, map, List, [], ◌∷◌}
 use Rattle.std.specs.Borrow.{Bor, MutBor}
 use Rattle.std.specs.Fn.{Mut}
 use Rattle.std.specs.Fn.{CalledAt}
 use Rattle.std.specs.List.Retain.{IsFiltered}
 use Rattle.std.specs.declared.alloc.Global.{Global}
 use Rattle.std.specs.declared.vec.Vec.{Vec}
-use Rattle.bptree_contract_tests.specs.Thinned.{FailsWith}
+use Rattle.bptree_contract_tests.specs.Thinned.{FailsWith, LosesNone}
+use Rattle.bptree_invariant.specs.NodeTree.{NodeTree}
 use Rattle.bptree_map.specs.RetainedKeys.{FailsKeyRetain}
-use Rattle.bptree_map.specs.Retaining.{CallsAtPair, FailsRetain, IsRetained}
+use Rattle.bptree_map.specs.Retaining.{FailsRetain}
+use Rattle.bptree_nodes.specs.Retaining.{CallsAtPair, IsRetained}
+use Rattle.bptree_tree.specs.Keeping.{FailsToRetain}
 use Rattle.bptree_map.specs.declared.failures.RetainError.{RetainError}
 use Rattle.bptree_map.specs.declared.failures.RetainError.TheVariants.{NotMade, NotStored}
 
@@ -25,6 +28,10 @@ module _ {F K V : Type 0} (calls : Mut F (Bor K × (MutBor V × Unit {0})) (Bool
   pub failed_by_test : (f : F) (old new : List (K × V)) (e : RetainError (Vec (K × V) Global)) → FailsRetain calls f old new e → FailsWith (filter test (map makes old)) old new e
   failed_by_test f old new NotMade fails = fails
   failed_by_test f old new (NotStored kept) fails = (fails.0, kept_by_test f old kept.items fails.1)
+
+  pub none_lost : {S A : Type 0} (f : F) (old new : NodeTree S K V A) (e : Option (Vec (K × V) Global)) → FailsToRetain calls f old new e → LosesNone (filter test (map makes old.contents)) old.contents new.contents e
+  none_lost f old new None fails = ap (λ t. t.contents) fails
+  none_lost f old new (Some kept) fails = (fails.0, kept_by_test f old.contents kept.items fails.1)
 
 -- A property of all keys that the closure keeps holds of those in the error.
 pub keys_failed : {F K : Type 0} (calls : Mut F (Bor K × Unit {0}) Bool) (f : F) (old new kept : List K) (e : RetainError (Vec K Global)) → ((l : List K) → IsFiltered (CalledAt calls) f old l → l ≡ kept) → FailsKeyRetain calls f old new e → FailsWith kept old new e

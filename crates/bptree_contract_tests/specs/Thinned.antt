@@ -1,5 +1,5 @@
 -- The pairs and keys that a closure keeps.
-use Rattle.std.specs.Prelude.{◌≡◌, ◌==◌, ℕ, List, [], filter, map, not}
+use Rattle.std.specs.Prelude.{◌≡◌, ◌==◌, ℕ, Option, Some, None, List, [], filter, map, not}
 use Rattle.std.specs.declared.alloc.Global.{Global}
 use Rattle.std.specs.declared.vec.Vec.{Vec}
 use Rattle.bptree_contract_tests.specs.Numbers.{halved}
@@ -18,3 +18,8 @@ without_zero keys = filter (λ key. not (key == 0)) keys
 abbrev pub FailsWith : {X : Type 0} → List X → List X → List X → RetainError (Vec X Global) → Type 0
 FailsWith kept old new NotMade = new ≡ old
 FailsWith kept old new (NotStored given) = (new ≡ []) × (given.items ≡ kept)
+
+-- Nothing changed, or nothing is left and these members are returned.
+abbrev pub LosesNone : {X : Type 0} → List X → List X → List X → Option (Vec X Global) → Type 0
+LosesNone kept old new None = new ≡ old
+LosesNone kept old new (Some given) = (new ≡ []) × (given.items ≡ kept)

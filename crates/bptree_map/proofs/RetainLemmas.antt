@@ -1,17 +1,14 @@
 -- A closure is called for each member of a list, and those that stay come one behind the other.
 use Rattle.std.proofs.Common.{◌≡◌, ◌∙◌, refl, sym, ap, suc, Bool, true, false, List, [], ◌∷◌, ◌++◌, append_assoc, append-nil}
-use Rattle.std.specs.Borrow.{Bor, MutBor}
-use Rattle.std.specs.Fn.{Called, Mut}
 use Rattle.std.specs.declared.cmp.Ordering.{Ordering}
 use Rattle.std.specs.declared.cmp.Ordering.TheVariants.{Less}
 use Rattle.std.specs.Cmp.{IsTotalOrder}
-use Rattle.std.specs.List.Retain.{IsFiltered, RetainsInTurn}
+use Rattle.std.specs.List.Retain.{IsFiltered}
 use Rattle.std.specs.List.Sorted.{IsStrictlySortedBy}
 use Rattle.std.specs.Map.{keys_of}
 use Rattle.std.proofs.lemmas.Map.Keys.{sorted_head, sorted_tail}
 use Rattle.bptree_keys.specs.Contents.{IsAscending}
 use Rattle.bptree_keys.proofs.Ascending.{all_before, all_after, all_joined, ascending_cons, ascending_with_value}
-use Rattle.bptree_map.specs.Retaining.{CallsAtPair, IsRetained}
 use Rattle.bptree_map.proofs.KeyLemmas.{keys_append}
 
 -- what holds in both cases holds
@@ -28,10 +25,6 @@ module _ {K V : Type 0} {cmp : K → K → Ordering} (total : IsTotalOrder cmp) 
       let Above : K → Type 0 = λ key. cmp p.0 key ≡ Less in
       let rest = ascending_without before pair after (sorted_tail cmp p.0 (keys_of (before ++ pair ∷ after)) ascending) in
       ascending_cons cmp p.0 (keys_of (before ++ after)) (all_joined Above before after (all_before Above before (pair ∷ after) above) (all_after Above before (pair ∷ after) above).1) rest
-
-  -- the next pair stays, with another value
-  pub still_ascending : (kept : List (K × V)) (pair : K × V) (rest : List (K × V)) → IsAscending cmp (kept ++ pair ∷ rest) → (v : V) → IsAscending cmp ((kept ++ (pair.0, v) ∷ []) ++ rest)
-  still_ascending kept pair rest ascending v = rw (append_assoc kept ((pair.0, v) ∷ []) rest) (ascending_with_value cmp kept pair v rest ascending)
 
 -- a closure was called for the members of a list in turn; some of them stay
 module _ {S X : Type 0} (Asked : S → List X → List X → Type 0) (f : S) (old : List X) where
@@ -62,26 +55,6 @@ module _ {S X : Type 0} (Asked : S → List X → List X → Type 0) (f : S) (ol
       let is : old ≡ goes.0 ++ [] = goes.1 ∙ ap (λ l. goes.0 ++ l) none in
       let all = goes.2 [] [] over in
       rw is (rw (append-nil kept) at all)
-
-module _ {S X : Type 0} (R : S → X → Bool → S → X → Type 0) (t : S) (x : X) (u : S) (y : X) where
-  pub retains_one : R t x true u y → (more stay : List X) → RetainsInTurn R u more stay → RetainsInTurn R t (x ∷ more) (y ∷ stay)
-  retains_one call more stay r = (true, u, y, call, stay, r, refl)
-
-  pub retains_none : R t x false u y → (more stay : List X) → RetainsInTurn R u more stay → RetainsInTurn R t (x ∷ more) stay
-  retains_none call more stay r = (false, u, y, call, stay, r, refl)
-
--- a closure is called for the next of the pairs
-module _ {F K V : Type 0} (calls : Mut F (Bor K × (MutBor V × Unit {0})) (Bool × (MutBor V × Unit {0}))) where
-  pub called_at : {t u : F} {key : Bor K} {value borrowed : MutBor V} {stays : Bool} → Called calls t (key, (value, tt)) (stays, (borrowed, tt)) u → CallsAtPair calls t (key.now, value.now) stays u (key.now, borrowed.now)
-  called_at called = (refl, record { key = _; value = _; shows = (refl, refl); left = _; called = called; leaves = refl })
-
-  module _ (f : F) (old : List (K × V)) (t : F) (kept left : List (K × V)) (asked : AsksOn (IsRetained calls) f old t kept left) (pair : K × V) (rest : List (K × V)) (next : left ≡ pair ∷ rest) (u : F) (after : K × V) where
-    -- the pair stays, or it is removed
-    pub pair_stays : CallsAtPair calls t pair true u after → AsksOn (IsRetained calls) f old u (kept ++ after ∷ []) rest
-    pair_stays call = one_stays (IsRetained calls) f old t kept pair rest (rw next at asked) u after (retains_one (CallsAtPair calls) t pair u after call)
-
-    pub pair_leaves : CallsAtPair calls t pair false u after → AsksOn (IsRetained calls) f old u kept rest
-    pair_leaves call = one_leaves (IsRetained calls) f old t kept pair rest (rw next at asked) u (retains_none (CallsAtPair calls) t pair u after call)
 
 module _ {P X : Type 0} (R : P → X → Bool → P → Type 0) where
   pub filters_nothing : (p : P) → IsFiltered R p [] []

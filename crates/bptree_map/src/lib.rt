@@ -5,4 +5,3 @@ mod comparing;
 pub mod failures;
 pub mod gathering;
 pub mod map;
-pub mod retaining;

@@ -2,6 +2,8 @@ pub mod Inverses
 pub mod Iterables
 pub mod LeafContents
 pub mod Pairs
+pub mod Retained
+pub mod Reversed
 pub mod Separators
 pub mod Splits
 pub mod Updates

@@ -3,6 +3,7 @@ pub mod Inner
 pub mod Leaf
 pub mod LeafBorrows
 pub mod LeafResults
+pub mod Retaining
 pub mod Slot
 pub mod Taken
 pub mod Updating

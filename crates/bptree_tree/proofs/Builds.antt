@@ -1,5 +1,5 @@
 -- Leaves that got all pairs of a vector, each its part.
-use Rattle.std.proofs.Common.{◌≡◌, ◌∙◌, ◌<◌, ◌≤◌, ◌-◌, ◌+◌, ℕ, List, [], ◌∷◌, ◌++◌, ap, arith, drop, length, length-append, subst, sym, take, take_all}
+use Rattle.std.proofs.Common.{◌≡◌, ◌∙◌, ◌<◌, ◌≤◌, ◌-◌, ◌+◌, ℕ, List, [], ◌∷◌, ◌++◌, ap, arith, drop, length, length-append, refl, subst, suc, sym, take}
 use Rattle.std.proofs.lemmas.List.{length-take-le, take-append-drop}
 use Rattle.std.specs.Cmp.{IsTotalOrder}
 use Rattle.std.specs.List.{AllByRecursion}
@@ -11,8 +11,7 @@ use Rattle.bptree_bulk_load.specs.Rooms.{joined, parts_of, ArePlanned}
 use Rattle.bptree_bulk_load.specs.declared.plan.Plan.{Plan}
 use Rattle.bptree_bulk_load.proofs.Standing.{drop_all}
 use Rattle.bptree_bulk.specs.Filling.{AreParts, HaveRooms, IsSize, TakeParts}
-use Rattle.bptree_bulk.specs.Moving.{poured}
-use Rattle.bptree_tree.specs.Building.{HaveAll, IsFilledLeaf}
+use Rattle.bptree_tree.specs.Building.{AreAllLeaves, HaveAll, IsFilledLeaf}
 use Rattle.bptree_bulk.proofs.Tails.{joined_parts, parts_several, parts_some, part_next, sized}
 use Rattle.bptree_invariant.proofs.Ordered.{ascending_after}
 use Rattle.bptree_invariant.proofs.Spot.{ascending_before}
@@ -51,19 +50,26 @@ module _ {K V : Type 0} {cmp : K → K → Ordering} (total : IsTotalOrder cmp) 
         filled_leaves (drop n l) leaves are (ascending_after total (take n l) (drop n l) both),
       )
 
--- the leaves are all those of a tree
-pub all_planned : {S K V A : Type 0} {cmp : K → K → Ordering} {is_summary : A → List K → Type 0} (slots : S → Slots (Inner K A) (Leaf K V)) (plan : Plan S K V A) {leaves : List (Box (Leaf K V) Global)} {pairs : List (K × V)}
-    (have : HaveAll cmp leaves pairs) → ArePlanned cmp is_summary (slots plan.store) plan.ids.items plan.trees.items (parts_of leaves) → PlansAll cmp is_summary slots plan (parts_of leaves)
-all_planned {cmp = cmp} slots plan {leaves = leaves} {pairs = pairs} have planned =
-    let parts = parts_of leaves in
-    let all = joined_parts pairs parts have.are in
+pub one_part : {K V : Type 0} (leaves : List (Box (Leaf K V) Global)) → length (parts_of leaves) ≡ length leaves
+one_part [] = refl
+one_part (leaf ∷ leaves) = ap suc (one_part leaves)
+
+-- leaves with all pairs can be all the leaves of a tree
+pub all_leaves : {K V : Type 0} {cmp : K → K → Ordering} (total : IsTotalOrder cmp) (leaves : List (Box (Leaf K V) Global)) (pairs : List (K × V)) → HaveAll cmp leaves pairs → AreAllLeaves cmp leaves
+all_leaves {cmp = cmp} total leaves pairs have =
+    let all = joined_parts pairs (parts_of leaves) have.are in
     record {
-      planned = planned;
-      some = parts_some pairs parts have.are have.some;
-      many = parts_several pairs parts have.are;
+      some = omega (arith, parts_some pairs (parts_of leaves) have.are have.some, one_part leaves);
+      filled = filled_leaves total pairs leaves have.are have.ascending;
+      many = parts_several pairs (parts_of leaves) have.are;
       ascending = subst (IsAscending cmp) (sym all) have.ascending;
       few = omega (arith, ap length all, have.few);
     }
+
+-- the leaves are all those of a tree
+pub all_planned : {S K V A : Type 0} {cmp : K → K → Ordering} {is_summary : A → List K → Type 0} (slots : S → Slots (Inner K A) (Leaf K V)) (plan : Plan S K V A) {leaves : List (Box (Leaf K V) Global)}
+    (all : AreAllLeaves cmp leaves) → ArePlanned cmp is_summary (slots plan.store) plan.ids.items plan.trees.items (parts_of leaves) → PlansAll cmp is_summary slots plan (parts_of leaves)
+all_planned slots plan {leaves = leaves} all planned = record { planned = planned; some = omega (arith, one_part leaves, all.some); many = all.many; ascending = all.ascending; few = all.few }
 
 -- once all leaves are filled they have the parts, and these are all pairs
 module _ {K V : Type 0} (pairs items : List (K × V)) (rooms start leaves : List (Box (Leaf K V) Global)) (none : start ≡ []) (same : items ≡ pairs) (have : HaveRooms pairs rooms) (takes : TakeParts items start leaves) where
@@ -74,6 +80,3 @@ module _ {K V : Type 0} (pairs items : List (K × V)) (rooms start leaves : List
 
   pub all_pairs : joined (parts_of leaves) ≡ pairs
   all_pairs = joined_parts pairs (parts_of leaves) all_parts
-
-  pub all_poured : (n : ℕ) → n ≡ length leaves → poured n leaves ≡ pairs
-  all_poured n all = ap (λ l. joined (parts_of l)) (take_all n leaves (omega (arith, all))) ∙ all_pairs

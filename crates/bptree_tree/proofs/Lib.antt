@@ -8,6 +8,7 @@ pub mod EntryLemmas
 pub mod FailureLemmas
 pub mod GapLemmas
 pub mod Heights
+pub mod KeptLemmas
 pub mod LastTaken
 pub mod BorrowedAt
 pub mod PageLemmas
@@ -18,3 +19,4 @@ pub mod Spans
 pub mod Started
 pub mod UndoLemmas
 pub mod UpdateLemmas
+pub mod WeavingLemmas

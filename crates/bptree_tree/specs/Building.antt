@@ -1,9 +1,10 @@
 -- Leaves that get their pairs before the nodes above them are made.
-use Rattle.std.specs.Prelude.{◌≡◌, ℕ, ◌<◌, ◌^◌, List, [], length}
+use Rattle.std.specs.Prelude.{◌≡◌, ℕ, ◌<◌, ◌≤◌, ◌^◌, List, [], length}
 use Rattle.std.specs.declared.alloc.Global.{Global}
 use Rattle.std.specs.declared.boxed.Box.{Box}
 use Rattle.std.specs.declared.cmp.Ordering.{Ordering}
-use Rattle.bptree_bulk_load.specs.Rooms.{parts_of}
+use Rattle.std.specs.List.{AllByRecursion}
+use Rattle.bptree_bulk_load.specs.Rooms.{joined, parts_of}
 use Rattle.bptree_bulk.specs.Filling.{AreParts, HaveRooms}
 use Rattle.bptree_keys.specs.Contents.{IsAscending}
 use Rattle.bptree_nodes.specs.Leaf.{Leaf}
@@ -18,12 +19,17 @@ module _ {K V : Type 0} where
     abbrev pub IsFilledLeaf : Box (Leaf K V) Global → Type 0
     IsFilledLeaf leaf = (0 < length leaf.value.pairs) × IsAscending cmp leaf.value.pairs
 
+    -- these can be all the leaves of a tree
+    pub record AreAllLeaves (leaves : List (Box (Leaf K V) Global)) : Type 0 where
+      pub some : 0 < length leaves
+      pub filled : AllByRecursion IsFilledLeaf leaves
+      pub many : 1 < length (parts_of leaves) → AllByRecursion (λ (part : List (K × V)). 16 ≤ length part) (parts_of leaves)
+      pub ascending : IsAscending cmp (joined (parts_of leaves))
+      pub few : length (joined (parts_of leaves)) < 2 ^ 64
+
     -- the leaves have the parts of these pairs, which ascend
     pub record HaveAll (leaves : List (Box (Leaf K V) Global)) (pairs : List (K × V)) : Type 0 where
       pub are : AreParts pairs (parts_of leaves) []
       pub some : 0 < length pairs
       pub ascending : IsAscending cmp pairs
       pub few : length pairs < 2 ^ 64
-
-    abbrev pub HaveSome : List (Box (Leaf K V) Global) → Type 0
-    HaveSome leaves = (pairs : List (K × V)) × HaveAll leaves pairs

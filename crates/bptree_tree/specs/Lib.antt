@@ -4,6 +4,7 @@ pub mod Chain
 pub mod Changes
 pub mod Cursor
 pub mod Entries
+pub mod Keeping
 pub mod RangeRemoval
 pub mod Returning
 pub mod NodeRows
@@ -13,5 +14,6 @@ pub mod Selected
 pub mod Splitting
 pub mod Undoing
 pub mod Updating
+pub mod Weaving
 pub mod Whole
 pub mod Writing

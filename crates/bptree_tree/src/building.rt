@@ -1,15 +1,15 @@
 //! Trees of the pairs of a vector, which are returned if an allocation fails.
-ghost use Rattle.std.specs.Prelude.{◌≡◌, ◌<◌, length, vec_capacity, vec_len, IfErr, IfOk, OnOk};
+ghost use Rattle.std.specs.Prelude.{◌≡◌, ◌+◌, ◌<◌, ◌≤◌, [], length, vec_capacity, vec_len, IfErr, IfOk, OnOk};
 ghost use Rattle.std.specs.List.{AllByRecursion};
 ghost use Rattle.bptree_bulk.specs.Filling.{IsEmptyLeaf};
-ghost use Rattle.bptree_tree.specs.Building.{HaveRoomsFor, HaveSome, IsFilledLeaf};
+ghost use Rattle.bptree_tree.specs.Building.{AreAllLeaves, HaveRoomsFor, IsFilledLeaf};
 ghost use Rattle.bptree_bulk_load.specs.Plans.{AddsParts, Frames};
-ghost use Rattle.bptree_bulk_load.specs.Rooms.{parts_of};
+ghost use Rattle.bptree_bulk_load.specs.Rooms.{joined, parts_of};
 ghost use Rattle.bptree_invariant.specs.NodeTree.{IsWhole};
 ghost use Rattle.bptree_keys.specs.Contents.{IsAscending};
 
 use bptree_bulk::filling::{fill_all, size_of};
-use bptree_bulk::moving::pour;
+use bptree_bulk::moving::{pairs_in, pour};
 use bptree_bulk_load::plan::{Plan, empty_plan, frame, plan_leaf};
 use bptree_bulk_load::planting::{Frame, plant};
 use bptree_invariant::nodes::Nodes;
@@ -57,12 +57,39 @@ fn frame_of<S: NodeStore>(
     alloc: Global,
     leaves: &[Box<LeafNode<S::K, S::V>>],
 ) -> Result<Frame<S>, AllocError>
-    requires { HaveSome S.K.cmp leaves.now }
+    requires { AreAllLeaves S.K.cmp leaves.now }
     ensures { IfOk result (λ frame. Frames S.K.cmp S.Argument.is_summary S.slots frame (parts_of leaves.now)) }
 {
     let mut plan = empty_plan(S::empty(alloc));
     plan_filled(&mut plan, leaves)?;
     frame(plan)
+}
+
+/// Returns the tree of some leaves, or their pairs if an allocation, a clone of a key or a summary
+/// fails. `spare` has room for these pairs.
+///
+/// O(n / 32) for n pairs: no pair moves, unless it fails. It clones one key of each leaf, and
+/// allocates the nodes above the leaves.
+pub(crate) fn plant_or_return<S: NodeStore>(
+    leaves: Vec<Box<LeafNode<S::K, S::V>>>,
+    spare: Vec<(S::K, S::V)>,
+) -> Result<Nodes<S>, Vec<(S::K, S::V)>>
+    requires leaves { AreAllLeaves S.K.cmp leaves.items }
+    requires none { spare.items ≡ [] }
+    requires room { vec_len spare + length (joined (parts_of leaves.items)) ≤ vec_capacity spare }
+    ensures contents { IfOk result (λ tree. tree.contents ≡ joined (parts_of leaves.items)) }
+    ensures whole { IfOk result (IsWhole S.K.cmp S.Argument.is_summary S.slots) }
+    ensures returned { IfErr result (λ back. back.items ≡ joined (parts_of leaves.items)) }
+{
+    let alloc = *leaves.allocator();
+    let count = pairs_in(&leaves);
+    let Ok(frame) = frame_of(alloc, &leaves) else {
+        let filled = leaves.len();
+        let mut spare = spare;
+        pour(&mut leaves.into_iter(), filled, &mut spare);
+        return Err(spare);
+    };
+    Ok(plant(frame, leaves, count))
 }
 
 /// Returns the tree of some pairs, whose keys ascend, or these pairs if an allocation, a clone of a
@@ -86,14 +113,9 @@ pub fn build_or_return<S: NodeStore>(
     let Ok(mut leaves) = Vec::with_capacity(alloc, rooms.len()) else {
         return Err(pairs);
     };
-    let Ok(mut spare) = Vec::with_capacity(alloc, count) else {
+    let Ok(spare) = Vec::with_capacity(alloc, count) else {
         return Err(pairs);
     };
     fill_all(pairs.into_iter(), rooms.into_iter(), &mut leaves);
-    let Ok(frame) = frame_of(alloc, &leaves) else {
-        let filled = leaves.len();
-        pour(&mut leaves.into_iter(), filled, &mut spare);
-        return Err(spare);
-    };
-    Ok(plant(frame, leaves, count))
+    plant_or_return(leaves, spare)
 }

@@ -1,8 +1,10 @@
 //! The leaves of an owned tree, taken out one by one from both ends.
-ghost use Rattle.std.specs.Prelude.{◌≡◌, ◌≢◌, ◌≤◌, ℕ, length, MatchOption};
+ghost use Rattle.std.specs.Prelude.{◌≡◌, ◌≢◌, ◌<◌, ◌≤◌, ◌^◌, ℕ, length, MatchOption};
 ghost use Rattle.bptree_nodes.specs.Slot.{Present, IsPresent};
+ghost use Rattle.bptree_keys.specs.Contents.{IsAscending};
 ghost use Rattle.bptree_tree.specs.Chain.{IsLeft, chain_pairs, AreEmpty, LeaveAt, end_of, inward_link, with_end};
 
+use bptree_invariant::nodes::Nodes;
 use bptree_keys::end::End;
 use bptree_keys::node_id::LeafNodeId;
 use bptree_nodes::leaf_node::LeafNode;
@@ -81,7 +83,7 @@ fn take_out<S: NodeStore>(store: &mut S, id: LeafNodeId) -> Box<LeafNode<S::K, S
 }
 
 impl<S: NodeStore> Chain<S> {
-    pub(crate) fn new(store: S, first: LeafNodeId, last: LeafNodeId, len: usize) -> Self
+    fn new(store: S, first: LeafNodeId, last: LeafNodeId, len: usize) -> Self
         requires { IsLeft (S.slots store) first last len }
         ensures { result ≡ chain_pairs (S.slots store) first len }
     {
@@ -90,6 +92,27 @@ impl<S: NodeStore> Chain<S> {
             ends: Ends { first, last },
             len,
         }
+    }
+
+    /// All leaves of a tree.
+    ///
+    /// O(log n). It allocates nothing and cannot fail.
+    pub(crate) fn of(nodes: Nodes<S>) -> Self
+        ensures all { result ≡ nodes.contents }
+        ensures ascending { IsAscending S.K.cmp nodes.contents }
+        ensures fits { length nodes.contents < 2 ^ 64 }
+    {
+        nodes.recall();
+        let first = nodes.first_leaf();
+        let last = nodes.last_leaf();
+        let Nodes {
+            store,
+            root: _,
+            height: _,
+            len,
+            summary: _,
+        } = nodes;
+        Chain::new(store, first, last, len)
     }
 
     /// Returns the keys of the leaf that `take_end` takes from the front next. The slice is empty if

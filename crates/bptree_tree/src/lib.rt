@@ -5,7 +5,9 @@
 mod building;
 mod chain;
 pub mod cursor;
+mod keeping;
 pub mod tree;
+mod weaving;
 
 pub use bptree_iter::iterator;
 pub use bptree_rebalancing::statistics::Statistic;

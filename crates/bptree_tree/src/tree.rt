@@ -25,6 +25,7 @@ mod range_removal;
 mod ranges;
 mod removals;
 mod replacing;
+mod retaining;
 mod splitting;
 mod updating;
 

@@ -3,6 +3,7 @@ pub mod Ends
 pub mod GroupItems
 pub mod GroupKinds
 pub mod Groups
+pub mod Kept
 pub mod ShardKeys
 pub mod ShardSums
 pub mod StepLemmas

@@ -2,7 +2,7 @@
 //! ascending pairs.
 ghost use Rattle.std.specs.Prelude.{◌≡◌, [], length, Ok, Some, IfErr, MatchResult, OnErr, OnOk};
 ghost use Rattle.std.specs.Ordering.{nat_cmp};
-ghost use Rattle.bptree_contract_tests.specs.Thinned.{halves_left, without_zero, FailsWith};
+ghost use Rattle.bptree_contract_tests.specs.Thinned.{halves_left, without_zero, FailsWith, LosesNone};
 ghost use Rattle.bptree_keys.specs.Contents.{has, IsAscending};
 ghost use Rattle.bptree_keys.specs.Keys.{AllInfallible};
 ghost use Rattle.bptree_keys.specs.Ranges.{between};
@@ -121,6 +121,19 @@ fn halves<K: Key, A: Argument<K>>(
     ensures err { IfErr result (FailsWith (halves_left map.old) map.old map.new) }
 {
     map.retain(|_: &K, value: &mut u64| {
+        *value /= 2;
+        *value != 0
+    })
+}
+
+// So it is with a tree.
+fn halves_in_a_tree<S: NodeStore<V = u64>>(
+    tree: &mut BPlusTree<S>,
+) -> Result<(), Option<Vec<(S::K, u64)>>>
+    ensures ok { OnOk result (tree.new.contents ≡ halves_left tree.old.contents) }
+    ensures err { IfErr result (LosesNone (halves_left tree.old.contents) tree.old.contents tree.new.contents) }
+{
+    tree.retain(|_: &S::K, value: &mut u64| {
         *value /= 2;
         *value != 0
     })

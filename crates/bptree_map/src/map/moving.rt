@@ -43,15 +43,15 @@ impl<K: Key, V: Drop, A: Argument<K>> BPlusTreeMap<K, V, A> {
     /// Moves all pairs of another map here. Of two equal keys this map's key stays, and it takes
     /// the other's value.
     ///
-    /// O(n) comparisons for n pairs of both. Before a pair moves it allocates new nodes for all of
-    /// them, clones a key of each leaf and computes summaries of the keys. If one of these fails,
-    /// neither map changes. If each key of one map is below each key of the other and both have at
-    /// least 16 pairs, each leaf moves as it is, in O(n / 32): it compares only the keys at the
-    /// ends, and allocates only the nodes above the leaves. If the other map has less than a
-    /// sixth of this one's pairs and no removal can fail, as `clones_never_fail` and
-    /// `never_fails` say, it inserts these one by one instead; if one fails, it takes back those
-    /// before it. If either map is empty, it allocates nothing and cannot fail. It returns `Full`
-    /// exactly if both together have more than `usize::MAX` pairs.
+    /// O(n) comparisons for n pairs of both. Before a pair moves it allocates four leaves, the
+    /// nodes above the leaves and a byte for each pair, clones a key of each leaf and computes
+    /// summaries of the keys. If one of these fails, neither map changes. If each key of one map is
+    /// below each key of the other and both have at least 16 pairs, each leaf moves as it is, in
+    /// O(n / 32): it compares only the keys at the ends, and allocates only the nodes above the
+    /// leaves. If the other map has less than a sixth of this one's pairs and no removal can fail,
+    /// as `clones_never_fail` and `never_fails` say, it inserts these one by one instead; if one
+    /// fails, it takes back those before it. If either map is empty, it allocates nothing and
+    /// cannot fail. It returns `Full` exactly if both together have more than `usize::MAX` pairs.
     pub fn append(&mut self, other: &mut Self) -> Result<(), AppendError>
         ensures ok { OnOk result (AllMove (put_pair K.cmp) self.old other.old self.new other.new) }
         ensures full { (result ≡ Err Full) ↔ (usize.MAX < length self.old + length other.old) }

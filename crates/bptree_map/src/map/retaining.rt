@@ -2,13 +2,13 @@
 ghost use Rattle.std.specs.Prelude.{◌≡◌, length, IfErr, IfOk, OnErr, OnOk};
 ghost use Rattle.bptree_propagation.specs.Failing.{OkIs};
 ghost use Rattle.bptree_keys.specs.Keys.{AllInfallible};
-ghost use Rattle.bptree_map.specs.Retaining.{IsRetained, FailsRetain};
+ghost use Rattle.bptree_map.specs.Retaining.{FailsRetain};
+ghost use Rattle.bptree_nodes.specs.Retaining.{IsRetained};
 ghost use Rattle.bptree_tree.specs.RangeRemoval.{outside, KeepsAllIfNone, KeepsOutside};
 ghost use Rattle.bptree_tree.specs.Entries.{pairs_between};
 
 use super::BPlusTreeMap;
 use crate::failures::RetainError;
-use crate::retaining::retain_in_tree;
 use bptree_arguments::argument::Argument;
 use bptree_keys::key::Key;
 use std::alloc::AllocError;
@@ -17,11 +17,12 @@ impl<K: Key, V: Drop, A: Argument<K>> BPlusTreeMap<K, V, A> {
     /// Keeps the pairs for which a closure returns true, in the order of their keys, with the
     /// values that it leaves, and drops the others.
     ///
-    /// O(n). The pairs that stay move to a vector, and from there to the leaves of a new map. Before
-    /// the first call of the closure it allocates one leaf, and the vector with room for all pairs;
-    /// if that fails, nothing changes. Then it calls the closure for every pair. It fails too if an
-    /// allocation for the new map, a clone of a key or a summary fails: the error then has the pairs
-    /// that stay, and the map is empty.
+    /// O(n) for n pairs: a pair that stays moves only within its leaf, or to a neighbour if both
+    /// leaves fit in one. Before the first call of the closure it allocates two leaves, room for a
+    /// list of leaves, and room for all pairs, which it uses only if it fails later. If one of these
+    /// fails, nothing changes. Then it calls the closure for every pair. It fails too if an
+    /// allocation for the nodes above the leaves, a clone of a key or a summary fails: the error
+    /// then has the pairs that stay, and the map is empty.
     pub fn retain<F: FnMut(&K, &mut V) -> bool>(
         &mut self,
         f: F,
@@ -30,7 +31,11 @@ impl<K: Key, V: Drop, A: Argument<K>> BPlusTreeMap<K, V, A> {
         ensures ok { OnOk result (IsRetained F.FnMut f self.old self.new) }
         ensures err { IfErr result (FailsRetain F.FnMut f self.old self.new) }
     {
-        retain_in_tree(&mut self.inner, f)
+        match self.inner.retain(f) {
+            Ok(()) => Ok(()),
+            Err(None) => Err(RetainError::NotMade),
+            Err(Some(kept)) => Err(RetainError::NotStored(kept)),
+        }
     }
 
     /// Removes the pairs whose key is not below `lo` and is below `hi`, if they are given, and

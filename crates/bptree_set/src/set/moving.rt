@@ -87,15 +87,15 @@ impl<K: Key> BPlusTreeSet<K> {
     /// Moves all keys of another set here. Of two equal keys this set's stays, and the other's is
     /// dropped.
     ///
-    /// O(n) comparisons for n keys of both. Before a key moves it allocates new nodes for all of
-    /// them, and clones a key of each leaf. If one of these fails, neither set changes. If each key
-    /// of one set is below each key of the other and both have at least 16 keys, each leaf moves as
-    /// it is, in O(n / 32): it compares only the keys at the ends, and allocates only the nodes
-    /// above the leaves. If the other set has less than a sixth of this one's keys and no
-    /// clone of a key can fail, as `clones_never_fail` says, it inserts these one by one instead;
-    /// if one fails, it takes back those before it. If either set is empty, it allocates nothing
-    /// and cannot fail. It returns `Full` exactly if both together have more than `usize::MAX`
-    /// keys.
+    /// O(n) comparisons for n keys of both. Before a key moves it allocates four leaves, the nodes
+    /// above the leaves and a byte for each key, and clones a key of each leaf. If one of these
+    /// fails, neither set changes. If each key of one set is below each key of the other and both
+    /// have at least 16 keys, each leaf moves as it is, in O(n / 32): it compares only the keys at
+    /// the ends, and allocates only the nodes above the leaves. If the other set has less than a
+    /// sixth of this one's keys and no clone of a key can fail, as `clones_never_fail` says, it
+    /// inserts these one by one instead; if one fails, it takes back those before it. If either set
+    /// is empty, it allocates nothing and cannot fail. It returns `Full` exactly if both together
+    /// have more than `usize::MAX` keys.
     pub fn append(&mut self, other: &mut Self) -> Result<(), AppendError>
         ensures ok { OnOk result (AllMove (with_key K.cmp) self.old other.old self.new other.new) }
         ensures full { (result ≡ Err Full) ↔ (usize.MAX < length self.old + length other.old) }

@@ -1,5 +1,5 @@
 //! The keys of a set that a closure keeps, and those outside a range.
-ghost use Rattle.std.specs.Prelude.{◌≡◌, ◌+◌, ◌≤◌, [], length, vec_capacity, vec_len, IfErr, IfOk, OnErr, OnOk};
+ghost use Rattle.std.specs.Prelude.{◌≡◌, ◌+◌, ◌<◌, ◌≤◌, ◌++◌, ◌∷◌, [], false, length, true, vec_capacity, vec_len, IfErr, IfOk, OnErr, OnOk};
 ghost use Rattle.std.specs.Fn.{CalledAt};
 ghost use Rattle.std.specs.List.Retain.{IsFiltered};
 ghost use Rattle.std.specs.Map.{keys_of};
@@ -12,10 +12,26 @@ use super::BPlusTreeSet;
 use bptree_keys::key::Key;
 use bptree_map::failures::RetainError;
 use bptree_map::map::BPlusTreeMap;
-use bptree_map::retaining::push_if;
 use bptree_stores::node_stores::NodeStore;
 use std::alloc::AllocError;
 use std::mem;
+
+// Appends an item to a vector that has room for it if the item stays, and drops it otherwise.
+//
+// Which items stay is hard to predict. If a drop of an item does nothing, the compiled code has no
+// branch on `stays`.
+#[inline(always)]
+fn push_if<T: Drop>(items: &mut Vec<T>, item: T, stays: bool)
+    requires { vec_len items.old < vec_capacity items.old }
+    ensures stays { stays ≡ true → items.new.items ≡ items.old.items ++ item ∷ [] }
+    ensures leaves { stays ≡ false → items.new.items ≡ items.old.items }
+    ensures len { vec_len items.new ≤ vec_len items.old + 1 }
+    ensures capacity { vec_capacity items.new ≡ vec_capacity items.old }
+{
+    let len = items.len();
+    items.push_reserved(item);
+    items.truncate(if stays { len + 1 } else { len });
+}
 
 // Moves the keys of some pairs to an empty vector.
 fn move_keys<K: Drop>(pairs: Vec<(K, ())>, keys: &mut Vec<K>)

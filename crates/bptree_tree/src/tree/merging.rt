@@ -1,7 +1,7 @@
 //! Two trees that become one.
 ghost use Rattle.std.specs.Prelude.{◌≡◌, ◌↔◌, ◌+◌, ◌<◌, ◌≤◌, ◌++◌, ◌∷◌, ◌⊎◌, ◌^◌, [], true, Err, Some, length, reverse, vec_capacity, vec_len, IfErr, IsOk, IsTrue, OnErr, OnOk};
 ghost use Rattle.bptree_propagation.specs.NodeTree.{IsWhole};
-ghost use Rattle.bptree_bulk.specs.Weave.{first_rest, next_source, put_pair, second_rest, step_pair, woven, IsWeave, Weaves};
+ghost use Rattle.bptree_bulk.specs.Weave.{put_pair, IsWeave};
 ghost use Rattle.bptree_keys.specs.Contents.{IsAscending};
 ghost use Rattle.bptree_keys.specs.Keys.{AllInfallible};
 ghost use Rattle.bptree_tree.specs.Appending.{appended, Appends};
@@ -9,18 +9,19 @@ ghost use Rattle.bptree_tree.specs.Undoing.{Notes, Returns, StopsAt, Undoes, Und
 ghost use Rattle.bptree_tree.specs.declared.AppendError.TheVariants.{Full};
 
 use crate::tree::{BPlusTree, IntoIter};
+use crate::weaving::weave_all;
 use crate::{AppendError, InsertError};
 use bptree_arguments::argument::Argument;
 use bptree_batches::many::{is_large, mark_many};
-use bptree_bulk::filling::plant_filling;
 use bptree_bulk::joining::{join, plan_join};
 use bptree_bulk::tail::{plan_all, plant_tail};
-use bptree_bulk::weaving::{Source, Weave, plan_weave};
+use bptree_bulk::weaving::{Weave, plan_weave};
+use bptree_bulk_load::planting::plant;
 use bptree_keys::key::Key;
 use bptree_stores::node_stores::NodeStore;
 use std::alloc::AllocError;
 use std::cmp::Ordering;
-use std::mem;
+use std::{mem, vec};
 
 /// How to undo a put.
 #[derive(Drop)]
@@ -29,48 +30,6 @@ pub(crate) enum Undo<K, V> {
     Inserted(K),
     /// The put replaced the value of a present key: a key that equals that key, and the old value.
     Replaced(K, V),
-}
-
-// The next pair of two trees.
-fn next_pair<S: NodeStore>(
-    source: Source,
-    first: &mut IntoIter<S>,
-    second: &mut IntoIter<S>,
-) -> (S::K, S::V)
-    requires { next_source S.K.cmp first.old second.old ≡ Some source }
-    ensures pair { result ∷ [] ≡ step_pair source first.old second.old }
-    ensures first { first.new ≡ first_rest source first.old }
-    ensures second { second.new ≡ second_rest source second.old }
-{
-    match source {
-        Source::First => first.next().unwrap(),
-        Source::Second => second.next().unwrap(),
-        Source::Both => {
-            let (k, _) = first.next().unwrap();
-            let (_, v) = second.next().unwrap();
-            (k, v)
-        }
-    }
-}
-
-// Moves all pairs of two trees to the end of `pairs`, in the order of the steps.
-fn weave_pairs<S: NodeStore>(
-    steps: &[Source],
-    first: IntoIter<S>,
-    second: IntoIter<S>,
-    pairs: &mut Vec<(S::K, S::V)>,
-)
-    requires weaves { Weaves S.K.cmp steps.now first second }
-    requires room { vec_len pairs.old + length steps.now ≤ vec_capacity pairs.old }
-    ensures { pairs.new.items ≡ pairs.old.items ++ woven steps.now first second }
-{
-    let mut first = first;
-    let mut second = second;
-    let mut i = 0;
-    'steps: while i < steps.len() {
-        pairs.push_reserved(next_pair(steps[i], &mut first, &mut second));
-        i += 1;
-    }
 }
 
 // Moves the pairs that are left to the end of `pairs`, the greatest first.
@@ -103,15 +62,16 @@ impl<S: NodeStore> BPlusTree<S> {
         ensures contents { result.contents ≡ appended S.K.cmp first.contents second.contents }
         ensures whole { IsWhole S.K.cmp S.Argument.is_summary S.slots result }
     {
-        let Weave { steps, filling } = weave;
-        let mut filling = filling;
-        weave_pairs(
-            &steps,
-            first.into_iter(),
-            second.into_iter(),
-            &mut filling.pairs,
-        );
-        BPlusTree::of_nodes(plant_filling(filling))
+        first.recall_whole();
+        second.recall_whole();
+        let Weave {
+            steps,
+            frame,
+            mut leaves,
+            rooms,
+        } = weave;
+        weave_all(first.nodes, second.nodes, &steps, rooms, &mut leaves);
+        BPlusTree::of_nodes(plant(frame, leaves, steps.len()))
     }
 
     // Puts a pair, and records how to undo that. If it fails, it returns the pair.
@@ -295,15 +255,15 @@ impl<S: NodeStore> BPlusTree<S> {
     /// Moves all pairs of another tree here. Of two equal keys this tree's key stays, and it takes
     /// the other's value.
     ///
-    /// O(n) comparisons for n pairs of both. Before a pair moves it allocates new nodes for all of
-    /// them, clones a key of each leaf and computes summaries of the keys. If one of these fails,
-    /// neither tree changes. If each key of one tree is less than each key of the other, and both
-    /// have at least 16 pairs, each leaf moves as it is, in O(n / 32): it compares only the keys at
-    /// the ends, and allocates the nodes above the leaves. If the other tree has less than a
-    /// sixth of this one's pairs and no removal can fail, as `clones_never_fail` and
-    /// `never_fails` say, it inserts these one by one instead; if one fails, it takes back those
-    /// before it. If either tree is empty, it allocates nothing and cannot fail. It returns `Full`
-    /// exactly if both together have more than `usize::MAX` pairs.
+    /// O(n) comparisons for n pairs of both. Before a pair moves it allocates four leaves, the
+    /// nodes above the leaves and a byte for each pair, clones a key of each leaf and computes
+    /// summaries of the keys. If one of these fails, neither tree changes. If each key of one tree
+    /// is less than each key of the other, and both have at least 16 pairs, each leaf moves as it
+    /// is, in O(n / 32): it compares only the keys at the ends, and allocates the nodes above the
+    /// leaves. If the other tree has less than a sixth of this one's pairs and no removal can fail,
+    /// as `clones_never_fail` and `never_fails` say, it inserts these one by one instead; if one
+    /// fails, it takes back those before it. If either tree is empty, it allocates nothing and
+    /// cannot fail. It returns `Full` exactly if both together have more than `usize::MAX` pairs.
     pub fn append(&mut self, other: &mut Self) -> Result<(), AppendError>
         ensures ok { OnOk result (Appends S.K.cmp self.old other.old self.new) }
         ensures emptied { OnOk result (other.new.contents ≡ []) }

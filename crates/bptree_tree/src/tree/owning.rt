@@ -8,7 +8,6 @@ ghost use Rattle.bptree_tree.specs.Chain.{TakesEnd, TakesEndOfAll};
 
 use crate::chain::Chain;
 use crate::tree::BPlusTree;
-use bptree_invariant::nodes::Nodes;
 use bptree_keys::end::End;
 use bptree_nodes::leaf_node::LeafNode;
 use bptree_nodes::leaf_pairs::LeafPairs;
@@ -55,18 +54,10 @@ impl<S: NodeStore> IntoIter<S> {
             statistic: _,
             path: _,
         } = tree;
-        let first = nodes.first_leaf();
-        let last = nodes.last_leaf();
-        let Nodes {
-            store,
-            root: _,
-            height: _,
-            len,
-            summary: _,
-        } = nodes;
-        let alloc = store.allocator();
+        let alloc = nodes.store.allocator();
+        let len = nodes.len();
         IntoIter {
-            leaves: Chain::new(store, first, last, len),
+            leaves: Chain::of(nodes),
             front: LeafPairs::new(alloc),
             back: LeafPairs::new(alloc),
             len,

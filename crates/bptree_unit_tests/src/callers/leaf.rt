@@ -360,6 +360,31 @@ fn gives_its_first<K: Drop, V: Drop>(
     left.pop()
 }
 
+// The last pair of a reversed leaf was the first one, and a leaf that is reversed twice is unchanged.
+fn takes_the_first<K: Drop, V: Drop>(leaf: &mut LeafNode<K, V>) -> (K, V)
+    requires { 0 < length leaf.old.pairs }
+    ensures { leaf.old.pairs ≡ result ∷ leaf.new.pairs }
+{
+    leaf.reverse();
+    let pair = leaf.pop();
+    leaf.reverse();
+    pair
+}
+
+// No pair stays for which the closure returns false.
+fn loses_each_pair<K: Drop, V: Drop>(leaf: &mut LeafNode<K, V>)
+    ensures { leaf.new.pairs ≡ [] }
+{
+    leaf.retain(|_: &K, _: &mut V| false);
+}
+
+// Each pair stays for which the closure returns true, in its order.
+fn loses_no_pair<K: Drop, V: Drop>(leaf: &mut LeafNode<K, V>)
+    ensures { leaf.new.pairs ≡ leaf.old.pairs }
+{
+    leaf.retain(|_: &K, _: &mut V| true);
+}
+
 // A clone has the same links, and clones of the pairs in their order.
 fn clones_pairs_and_links<K: Clone + Drop, V: Clone + Drop>(
     leaf: &LeafNode<K, V>,

@@ -3,6 +3,18 @@ use Rattle.bptree_bulk.proofs.Weaves.{goes_joined, step_shrinks}
 use Rattle.bptree_bulk.specs.Weave.{next_source, Goes}
 use Rattle.bptree_bulk.proofs.weaving.steps_of.Goals as goal
 
+pub leaves-preserved : goal.leaves-preserved
+leaves-preserved g c =
+    let cmp = g.S.K.Ord.cmp in
+    let a = c.args.first.now.contents in
+    let b = c.args.second.now.contents in
+    let added = c.take_steps.ensures.added in
+    let items = c.leaves.steps.items in
+    record {
+      goes = subst (λ l. Goes cmp l a b c.take_steps.new.first c.take_steps.new.second) (sym added.added) (goes_joined cmp items added.more a b c.leaves.ones c.leaves.others c.take_steps.new.first c.take_steps.new.second c.leaves.invariant.goes added.goes);
+      room = c.take_steps.ensures.room;
+    }
+
 pub steps-preserved : goal.steps-preserved
 steps-preserved g c =
     let cmp = g.S.K.Ord.cmp in

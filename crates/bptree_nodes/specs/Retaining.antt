@@ -1,0 +1,26 @@
+-- The members of a list that a closure keeps.
+use Rattle.std.specs.Prelude.{◌≡◌, ℕ, Bool, List, ◌++◌, take}
+use Rattle.std.specs.Borrow.{Bor, MutBor}
+use Rattle.std.specs.Fn.{Mut}
+use Rattle.std.specs.List.{zip}
+use Rattle.std.specs.List.Retain.{RetainsInTurn}
+use Rattle.std.specs.Map.Calls.{CalledAtPair}
+
+module _ {F K V : Type 0} (calls : Mut F (Bor K × (MutBor V × Unit {0})) (Bool × (MutBor V × Unit {0}))) where
+  -- a call for the key and the value of a pair returns whether the pair stays, and leaves this
+  -- value and this closure
+  abbrev pub CallsAtPair : F → K × V → Bool → F → K × V → Type 0
+  CallsAtPair f pair stays after left = (left.0 ≡ pair.0) × CalledAtPair calls f pair.0 pair.1 stays left.1 after
+
+  -- the new list has the pairs that stay, as the closure left them
+  abbrev pub IsRetained : F → List (K × V) → List (K × V) → Type 0
+  IsRetained f old new = RetainsInTurn CallsAtPair f old new
+
+  -- the closure was called for the pairs of the old list, which leaves it as `after`, and the new
+  -- list has those that stay: with the pairs that stay of more pairs it has those that stay of all
+  abbrev pub RetainsFirst : F → List (K × V) → F → List (K × V) → Type 0
+  RetainsFirst f old after new = (more stay : List (K × V)) → IsRetained after more stay → IsRetained f (old ++ more) (new ++ stay)
+
+  -- the first keys and values are those of the pairs that stay
+  abbrev pub RetainsInFront : F → List (K × V) → F → ℕ → List K → List V → Type 0
+  RetainsInFront f old after count keys values = RetainsFirst f old after (zip (take count keys) (take count values))
