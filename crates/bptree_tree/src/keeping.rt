@@ -12,7 +12,7 @@ use bptree_nodes::leaf_node::{LEAF_CAPACITY, LEAF_MINIMUM, LeafNode};
 use bptree_stores::node_stores::NodeStore;
 use std::alloc::{AllocError, Global};
 
-/// What is allocated before a closure is asked which pairs of a tree stay. Dropping it changes no
+/// What is allocated before a closure is called for the pairs of a tree. Dropping it changes no
 /// tree.
 #[derive(Drop)]
 pub(crate) struct Keeping<K, V> {

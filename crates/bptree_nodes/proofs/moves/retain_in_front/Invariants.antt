@@ -1,4 +1,4 @@
--- The first pairs were asked about, and those of them that stay are in front.
+-- The closure was called for the first pairs, and those of them that stay are in front.
 use Rattle.std.proofs.Common.{◌≡◌, ◌-◌, ◌≤◌, drop, length, take}
 use Rattle.std.specs.List.{zip}
 use Rattle.bptree_nodes.specs.Retaining.{RetainsInFront}
