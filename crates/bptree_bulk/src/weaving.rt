@@ -133,9 +133,7 @@ fn next_key<'a, S: NodeStore>(
 }
 
 // Adds the source of each next pair, up to the end of the first leaf of either tree, and leaves
-// these pairs out.
-//
-// Which key is smaller is hard to predict, so no branch depends on it.
+// these pairs out. Between two pairs it looks up no leaf.
 fn take_steps<S: NodeStore>(
     first: &mut Ahead<'_, S>,
     second: &mut Ahead<'_, S>,

@@ -17,12 +17,13 @@ impl<K: Key, V: Drop, A: Argument<K>> BPlusTreeMap<K, V, A> {
     /// Keeps the pairs for which a closure returns true, in the order of their keys, with the
     /// values that it leaves, and drops the others.
     ///
-    /// O(n) for n pairs: a pair that stays moves only within its leaf, or to a neighbour if both
-    /// leaves fit in one. Before the first call of the closure it allocates two leaves, room for a
-    /// list of leaves, and room for all pairs, which it uses only if it fails later. If one of these
-    /// fails, nothing changes. Then it calls the closure for every pair. It fails too if an
-    /// allocation for the nodes above the leaves, a clone of a key or a summary fails: the error
-    /// then has the pairs that stay, and the map is empty.
+    /// O(n) for n pairs: a pair that stays moves only within its leaf, or to a neighbour, if both
+    /// fit in one leaf or if one of them has fewer than 16 pairs. Before the first call of the
+    /// closure it allocates two leaves, room for a list of leaves, and room for all pairs, which it
+    /// uses only if it fails later. If one of these fails, nothing changes. Then it calls the
+    /// closure for every pair. It fails too if an allocation for the nodes above the leaves, a
+    /// clone of a key or a summary fails: the error then has the pairs that stay, and the map is
+    /// empty.
     pub fn retain<F: FnMut(&K, &mut V) -> bool>(
         &mut self,
         f: F,
