@@ -36,7 +36,7 @@ if os.environ.get("SWEEP_BPTREE_LIBRARY"):
 from . import _native  # noqa: E402
 from ._native import EmptyError  # noqa: E402, F401
 
-__version__ = "0.10.3"
+__version__ = "0.10.4"
 
 __all__ = ["SortedMap", "SortedSet"]
 

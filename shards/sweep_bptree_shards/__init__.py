@@ -12,6 +12,6 @@ from .client import Shards
 from .errors import BatchError, BrokenError, LostError, NotWrittenError, OutOfMemoryError, ShardError
 from .local import local_client
 
-__version__ = "0.10.3"
+__version__ = "0.10.4"
 
 __all__ = ["BatchError", "BrokenError", "LostError", "NotWrittenError", "OutOfMemoryError", "ShardError", "Shards", "local_client"]

@@ -282,7 +282,8 @@ impl Drawing {
             13..=23 => call(8, 1, &[]),
             24 => {
                 let modulus = 2 + self.dice.below(9);
-                call(8, 3, &[modulus, self.dice.below(modulus)])
+                let residue = self.dice.below(modulus);
+                call(8, 3, &[modulus, residue, residue & 1])
             }
             25 => call(8, 3, &[1, 1]),
             26..=30 => {

@@ -8,8 +8,8 @@ use crate::model::Model;
 use crate::record::Record;
 use crate::words::Reply;
 
-// Whether a removal can fail.
-fn removals_can_fail(kind: &Kind) -> bool {
+/// Whether a removal can fail.
+pub fn removals_can_fail(kind: &Kind) -> bool {
     kind.has_large_keys() || kind.has_groups()
 }
 

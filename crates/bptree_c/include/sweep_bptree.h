@@ -11,8 +11,8 @@
 #include <stddef.h>
 #include <stdint.h>
 
-#define SWEEP_BPTREE_VERSION "0.10.3"
-#define SWEEP_BPTREE_VERSION_NUMBER 10003
+#define SWEEP_BPTREE_VERSION "0.10.4"
+#define SWEEP_BPTREE_VERSION_NUMBER 10004
 
 #ifdef __cplusplus
 extern "C" {

@@ -6,7 +6,7 @@ ghost use Rattle.std.specs.Prelude.{◌≡◌};
 /// O(1). It allocates nothing and cannot fail.
 #[unsafe(no_mangle)]
 pub extern "C" fn bptree_version() -> u32
-    ensures version { result ≡ 10003 }
+    ensures version { result ≡ 10004 }
 {
-    10003
+    10004
 }

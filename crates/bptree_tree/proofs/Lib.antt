@@ -14,6 +14,7 @@ pub mod BorrowedAt
 pub mod PageLemmas
 pub mod PartSpans
 pub mod RangeRemovalLemmas
+pub mod RetainLemmas
 pub mod Removed
 pub mod Spans
 pub mod Started

@@ -1,5 +1,5 @@
 -- The leaves of the pairs that a closure keeps.
-use Rattle.std.specs.Prelude.{◌≡◌, ◌<◌, ◌≤◌, ◌++◌, Bool, Option, Some, None, List, [], length}
+use Rattle.std.specs.Prelude.{◌≡◌, ◌<◌, ◌≤◌, ◌++◌, ◌∷◌, Bool, cond, Option, Some, None, List, [], length}
 use Rattle.std.specs.Borrow.{Bor, MutBor}
 use Rattle.std.specs.Fn.{Mut}
 use Rattle.std.specs.List.{AllByRecursion}
@@ -9,8 +9,9 @@ use Rattle.std.specs.declared.cmp.Ordering.{Ordering}
 use Rattle.std.specs.declared.vec.Vec.{Vec}
 use Rattle.bptree_bulk_load.specs.Rooms.{joined, parts_of}
 use Rattle.bptree_invariant.specs.NodeTree.{NodeTree}
+use Rattle.bptree_keys.specs.Indexes.{IsHit}
 use Rattle.bptree_nodes.specs.Leaf.{Leaf}
-use Rattle.bptree_nodes.specs.Retaining.{IsRetained}
+use Rattle.bptree_nodes.specs.Retaining.{CallsAtPair, IsRetained}
 use Rattle.bptree_tree.specs.Building.{AreAllLeaves}
 
 module _ {K V : Type 0} where
@@ -41,3 +42,22 @@ module _ {F K V : Type 0} (calls : Mut F (Bor K × (MutBor V × Unit {0})) (Bool
   abbrev pub FailsToRetain : {S A : Type 0} → F → NodeTree S K V A → NodeTree S K V A → Option (Vec (K × V) Global) → Type 0
   FailsToRetain f old new None = new ≡ old
   FailsToRetain f old new (Some kept) = (new.contents ≡ []) × IsRetained calls f old.contents kept.items
+
+  module _ (cmp : K → K → Ordering) (k : K) (f : F) where
+    -- the closure was called for the pair of a list whose key equals k; the call returned `stays`
+    -- and left the pair `left` and the closure `after`
+    pub record IsCallFor (old : List (K × V)) (stays : Bool) (after : F) : Type 0 where
+      pub before : List (K × V)
+      pub pair : K × V
+      pub behind : List (K × V)
+      pub hit : IsHit cmp old before pair behind k
+      pub left : K × V
+      pub call : CallsAtPair calls f pair stays after left
+
+    -- the new list has the pair as the call left it
+    abbrev pub CallsFor : List (K × V) → List (K × V) → Bool × F → Type 0
+    CallsFor old new result = (call : IsCallFor old result.0 result.1) × (new ≡ call.before ++ call.left ∷ call.behind)
+
+    -- the new list has the pair as the call left it, or does not have it if it does not stay
+    abbrev pub KeepsOrRemoves : List (K × V) → List (K × V) → F → Type 0
+    KeepsOrRemoves old new after = (stays : Bool) × (call : IsCallFor old stays after) × (new ≡ call.before ++ cond stays (call.left ∷ call.behind) call.behind)

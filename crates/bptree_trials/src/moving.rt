@@ -86,17 +86,22 @@ pub fn report_retained<X: Report + Drop>(
     }
 }
 
+// Keeps some pairs, by the call that never fails if it is wanted and allowed.
 fn retain<K: Sample, A: SampleSummary<K>>(
     map: &mut BPlusTreeMap<K, u64, A>,
     record: &Record,
     words: &mut Words,
 ) -> bool {
     let (modulus, residue) = (record.a, record.b);
-    let outcome = map.retain(|_key: &K, value: &mut u64| {
+    let stays = |_key: &K, value: &mut u64| {
         let value = *value;
         modulus == 0 || value % modulus != residue
-    });
-    report_retained(outcome, words)
+    };
+    if record.c == 1 && K::clones_never_fail() && A::never_fails() {
+        map.retain_infallible(stays);
+        return true;
+    }
+    report_retained(map.retain(stays), words)
 }
 
 fn add_to_each<K: Sample, A: SampleSummary<K>>(

@@ -22,4 +22,4 @@ pub use tree::visit::{DescendError, DescendVisit, DescendVisitResult};
 pub use tree::{BPlusTree, Cursor, Key, NodeStore, NodeStoreVec, Statistic};
 
 /// The version of the library. README.md, CHANGELOG.md and the packages have it too.
-pub const VERSION: &str = "0.10.3";
+pub const VERSION: &str = "0.10.4";

@@ -4,6 +4,7 @@ use super::maps::{first_to_leave, range};
 use crate::kind::{marked, Kind};
 use crate::record::{call, calls, steps, Record, LOWER, LOWER_OUT, UPPER, UPPER_IN};
 use crate::scenario::{quiet, swept, Scenario, Step};
+use crate::stopped::removals_can_fail;
 
 /// So many pairs make trees of the heights 0, 1 and 2.
 const MANY: [u64; 3] = [40, 400, 4161];
@@ -233,6 +234,9 @@ fn moves(kind: Kind, keys: Keys) -> Vec<Record> {
         all.push(call(8, 3, &[1, 0]));
     } else {
         all.push(call(8, 3, &[3, 0]));
+    }
+    if kind.is_map() && !removals_can_fail(&kind) {
+        all.push(call(8, 3, &[5, 2, 1]));
     }
     all
 }

@@ -52,7 +52,8 @@ fn few_added() -> Vec<Step> {
 }
 
 // Many pairs leave and come back; others come, and values change. Where keys take no memory, few
-// pairs come before, and three leave and come back: of 128 pairs or more they move one by one.
+// pairs come before, and three leave and come back: of 128 pairs or more they move one by one. And
+// one pair is then removed by the `retain` that never fails.
 fn moved(many: u64, takes_memory: bool) -> Vec<Step> {
     let first = first_to_leave(many);
     let between = [first, many, 1, LOWER | UPPER];
@@ -82,6 +83,9 @@ fn moved(many: u64, takes_memory: bool) -> Vec<Step> {
         call(8, 4, &between),
     ];
     all.extend(moves.iter().map(|record| swept(*record)));
+    if !takes_memory {
+        all.push(swept(call(8, 3, &[many + 1, many / 3, 1])));
+    }
     all.extend((first..many).map(|number| swept(calls::insert(number, number))));
     all
 }
@@ -330,7 +334,8 @@ pub fn all(sort: &Sort) -> Vec<Scenario> {
         if !sort.takes_memory() || many < 4000 {
             let end = format!(", {word}moved between maps");
             let steps = moved(many, sort.takes_memory());
-            all.push(scenario(&end, steps).ending(many as usize + 5));
+            let gone = usize::from(!sort.takes_memory());
+            all.push(scenario(&end, steps).ending(many as usize + 5 - gone));
             let end = format!(", {word}ranges removed");
             all.push(scenario(&end, ranges_removed(many)).ending(1));
             let end = format!(", {word}extended at once");

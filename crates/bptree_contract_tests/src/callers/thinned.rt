@@ -139,6 +139,27 @@ fn halves_in_a_tree<S: NodeStore<V = u64>>(
     })
 }
 
+// A tree whose removals need no memory always keeps these pairs, and no others.
+fn always_halves_in_a_tree<S: NodeStore<V = u64>>(tree: &mut BPlusTree<S>)
+    requires { S.Argument.needs_no_memory × AllInfallible S.K.is_infallible }
+    ensures { tree.new.contents ≡ halves_left tree.old.contents }
+{
+    tree.retain_infallible(|_: &S::K, value: &mut u64| {
+        *value /= 2;
+        *value != 0
+    });
+}
+
+// So does a map whose keys are numbers and that keeps no summaries.
+fn always_halves(map: &mut BPlusTreeMap<u64, u64, ()>)
+    ensures { map.new ≡ halves_left map.old }
+{
+    map.retain_infallible(|_: &u64, value: &mut u64| {
+        *value /= 2;
+        *value != 0
+    });
+}
+
 // All keys but 0 stay. If that fails, no other key is lost.
 fn loses_zero(set: &mut BPlusTreeSet<u64>) -> Result<(), RetainError<Vec<u64>>>
     ensures ok { OnOk result (set.new ≡ without_zero set.old) }

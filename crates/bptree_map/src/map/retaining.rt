@@ -39,6 +39,19 @@ impl<K: Key, V: Drop, A: Argument<K>> BPlusTreeMap<K, V, A> {
         }
     }
 
+    /// Keeps the pairs as `retain` does, for a map that needs no memory to remove a pair: no clone
+    /// of a key fails, and no summary allocates.
+    ///
+    /// O(n log n) for n pairs: it looks up each pair, and removes those that do not stay one by
+    /// one. It allocates nothing but what clones of keys and summaries allocate, and cannot fail.
+    pub fn retain_infallible<F: FnMut(&K, &mut V) -> bool>(&mut self, f: F)
+        requires infallible { A.needs_no_memory × AllInfallible K.is_infallible }
+        requires callable { F.IsAlwaysCallable f }
+        ensures { IsRetained F.FnMut f self.old self.new }
+    {
+        self.inner.retain_infallible(f);
+    }
+
     /// Removes the pairs whose key is not below `lo` and is below `hi`, if they are given, and
     /// returns their number. If it fails, nothing changes.
     ///

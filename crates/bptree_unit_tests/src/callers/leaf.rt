@@ -1,5 +1,5 @@
 //! Callers of a leaf.
-ghost use Rattle.std.specs.Prelude.{◌≡◌, ◌<◌, ◌≤◌, ◌+◌, ◌-◌, ◌∷◌, ◌++◌, [], List, Ok, Err, Some, None, true, false, length, take, drop, slice_get, IfOk, IfSome, IsSomeAnd, option_copied};
+ghost use Rattle.std.specs.Prelude.{◌≡◌, ◌==◌, ◌<◌, ◌≤◌, ◌+◌, ◌-◌, ◌/◌, ◌∷◌, ◌++◌, [], ℕ, List, Ok, Err, Some, None, true, false, length, take, drop, slice_get, IfOk, IfSome, IsSomeAnd, option_copied};
 ghost use Rattle.std.specs.declared.cmp.Ordering.TheVariants.{Less, Equal, Greater};
 ghost use Rattle.std.specs.List.{AllZip};
 ghost use Rattle.std.specs.Iterator.{Yields, YieldsThen};
@@ -383,6 +383,20 @@ fn loses_no_pair<K: Drop, V: Drop>(leaf: &mut LeafNode<K, V>)
     ensures { leaf.new.pairs ≡ leaf.old.pairs }
 {
     leaf.retain(|_: &K, _: &mut V| true);
+}
+
+// A closure that is called for the first pair changes that value, and no other pair and no link. Its
+// result is that of the call.
+fn halves_the_first<K: Drop>(leaf: &mut LeafNode<K, u64>) -> bool
+    requires { 0 < length leaf.old.pairs }
+    ensures { (key : K) (value : ℕ) (rest : List (K × ℕ)) → leaf.old.pairs ≡ (key, value) ∷ rest → (leaf.new ≡ record leaf.old { pairs = (key, value / 2) ∷ rest }) × (result ≡ (value == 7)) }
+{
+    let (stays, _) = leaf.call_at(0, |_: &K, value: &mut u64| {
+        let is_seven = *value == 7;
+        *value /= 2;
+        is_seven
+    });
+    stays
 }
 
 // A clone has the same links, and clones of the pairs in their order.
