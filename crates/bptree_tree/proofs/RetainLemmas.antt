@@ -6,12 +6,15 @@ use Rattle.std.specs.Fn.{Mut}
 use Rattle.std.specs.Ordering.{is_gt}
 use Rattle.std.specs.declared.cmp.Ordering.{Ordering}
 use Rattle.std.specs.declared.cmp.Ordering.TheVariants.{Less, Equal, Greater}
+use Rattle.std.proofs.lemmas.List.{append_cancel_left}
 use Rattle.std.proofs.lemmas.List.Elements.{filter-append}
+use Rattle.std.proofs.lemmas.Option.{get_or_from_slice_get, slice_get_within}
 use Rattle.bptree_keys.specs.Contents.{IsAscending, del, has, pairs_above}
 use Rattle.bptree_keys.specs.Indexes.{AllCompare, IsHit}
 use Rattle.bptree_keys.specs.declared.node_id.LeafNodeId.{LeafNodeId}
 use Rattle.bptree_keys.specs.declared.node_id.NodeId.{NodeId}
 use Rattle.bptree_keys.proofs.Ascending.{equal_parts}
+use Rattle.bptree_keys.proofs.Found.{parts_at}
 use Rattle.bptree_keys.proofs.Parted.{del_hit, filter_all, filter_none, has_hit, pairs_below_hit}
 use Rattle.bptree_nodes.specs.Inner.{Inner}
 use Rattle.bptree_nodes.specs.Leaf.{Leaf, set_value_at}
@@ -28,26 +31,11 @@ use Rattle.bptree_tree.specs.declared.cursor.Cursor.{Cursor}
 use Rattle.bptree_tree.proofs.BorrowedAt.{set_pairs}
 
 module _ {K V : Type 0} where
-  -- a list around the member at an index, and with another value there
-  parted_at : (l : List (K × V)) (i : ℕ) (pair : K × V) → slice_get l i ≡ Some pair → l ≡ take i l ++ pair ∷ drop (suc i) l
-  parted_at [] i pair read = absurd (let z : None ≡ Some pair = read in cc)
-  parted_at (p ∷ l) zero pair read = let same : p ≡ pair = cc in rw same refl
-  parted_at (p ∷ l) (suc i) pair read = ap (λ rest. p ∷ rest) (parted_at l i pair read)
-
+  -- a list with another value at an index
   written_at : (l : List (K × V)) (i : ℕ) (pair : K × V) (v : V) → slice_get l i ≡ Some pair → set_value_at l i v ≡ take i l ++ (pair.0, v) ∷ drop (suc i) l
   written_at [] i pair v read = absurd (let z : None ≡ Some pair = read in cc)
   written_at (p ∷ l) zero pair v read = let same : p ≡ pair = cc in rw same refl
   written_at (p ∷ l) (suc i) pair v read = ap (λ rest. p ∷ rest) (written_at l i pair v read)
-
-  inside : (l : List (K × V)) (i : ℕ) (pair : K × V) → slice_get l i ≡ Some pair → i < length l
-  inside [] i pair read = absurd (let z : None ≡ Some pair = read in cc)
-  inside (p ∷ l) zero pair read = omega arith
-  inside (p ∷ l) (suc i) pair read = let less = inside l i pair read in omega (arith, less)
-
-  -- two lists with one beginning have one end
-  same_end : (l xs ys : List (K × V)) → l ++ xs ≡ l ++ ys → xs ≡ ys
-  same_end [] xs ys same = same
-  same_end (p ∷ l) xs ys same = same_end l xs ys (let both : p ∷ (l ++ xs) ≡ p ∷ (l ++ ys) = same in cc)
 
 module _ {F K V A : Type 0} (calls : Mut F (Bor K × (MutBor V × Unit {0})) (Bool × (MutBor V × Unit {0}))) {cmp : K → K → Ordering} (total : IsTotalOrder cmp) (is_summary : A → List K → Type 0) (slots new : Slots (Inner K A) (Leaf K V)) (h : ℕ) (root : NodeId)
     (shape : IsWellShaped cmp is_summary slots h root) (ascending : IsAscending cmp (pairs_at slots h root)) (k : K) (leaf : LeafNodeId) (node : Leaf K V) (read : slots.leaf leaf.0 ≡ Present node) (in' : IsLeafOf slots h root leaf) (slot : ℕ) (found : HasEqualAt cmp node.pairs k slot) where
@@ -60,12 +48,12 @@ module _ {F K V A : Type 0} (calls : Mut F (Bor K × (MutBor V × Unit {0})) (Bo
       let l = pairs_at slots h root in
       let before = pairs_of slots in'.before in
       let i = length before + slot in
-      let within = inside node.pairs slot pair at in
+      let within = slice_get_within node.pairs slot pair at in
       let there : slice_get l i ≡ Some pair =
       ap (λ m. slice_get m i) (parts_of_read slots h root leaf in' node read)
       ∙ (slice_get-append_right before (node.pairs ++ pairs_of slots in'.after) i slot refl ∙ (slice_get-append_left node.pairs (pairs_of slots in'.after) slot within ∙ at)) in
       let equal : cmp pair.0 k ≡ Equal = rw at at found in
-      let parts = parted_at l i pair there in
+      let parts : l ≡ take i l ++ pair ∷ drop (suc i) l = parts_at l i pair (slice_get_within l i pair there) ∙ ap (λ p. take i l ++ p ∷ drop (suc i) l) (get_or_from_slice_get l i pair pair there) in
       let hit : IsHit cmp l (take i l) pair (drop (suc i) l) k = subst (λ m. IsHit cmp m (take i l) pair (drop (suc i) l) k) (sym parts) (equal_parts cmp total (take i l) pair (drop (suc i) l) k (subst (IsAscending cmp) parts ascending) equal) in
       let written = set_pairs cmp is_summary slots new h root shape leaf node read in' slot within w (rw (← called.4) updates) in
       (record { before = take i l; pair = pair; behind = drop (suc i) l; hit = hit; left = (pair.0, w); call = called.3 }, written ∙ written_at l i pair w there)
@@ -166,7 +154,7 @@ module _ {F K V : Type 0} (calls : Mut F (Bor K × (MutBor V × Unit {0})) (Bool
     asked_on after new cursor step at =
         let call = step.1 in
         let same : call.before ≡ asked.kept = sym (pairs_below_hit cmp now call.before call.pair call.behind (cursor_key here) call.hit) ∙ pairs_below_hit cmp now asked.kept is_next.pair is_next.behind (cursor_key here) is_next.hit in
-        let ends : call.pair ∷ call.behind ≡ is_next.pair ∷ is_next.behind = same_end asked.kept (call.pair ∷ call.behind) (is_next.pair ∷ is_next.behind) (ap (λ m. m ++ call.pair ∷ call.behind) (sym same) ∙ (sym call.hit.parts ∙ is_next.hit.parts)) in
+        let ends : call.pair ∷ call.behind ≡ is_next.pair ∷ is_next.behind = append_cancel_left asked.kept (call.pair ∷ call.behind) (is_next.pair ∷ is_next.behind) (ap (λ m. m ++ call.pair ∷ call.behind) (sym same) ∙ (sym call.hit.parts ∙ is_next.hit.parts)) in
         let rest_is : asked.rest ≡ call.pair ∷ call.behind = is_next.rest_is ∙ sym ends in
         let new_is : new ≡ asked.kept ++ cond step.0 (call.left ∷ call.behind) call.behind = step.2 ∙ ap (λ m. m ++ cond step.0 (call.left ∷ call.behind) call.behind) same in
         let above : pairs_above cmp new (cursor_key here) ≡ call.behind =
